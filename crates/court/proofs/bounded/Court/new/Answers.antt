@@ -1,0 +1,7 @@
+use mathlib.Core.Path.{refl}
+use Rattle.court.specs.Frame.{start}
+use Rattle.court.proofs.bounded.Court.new.Needs as need
+
+pub returns : need.returns
+unfolding start
+returns c = refl

@@ -1,0 +1,61 @@
+// Step 1 of a frame: each paddle goes by its seat's input.
+ghost use mathlib.Core.Path.{_≡_};
+ghost use lib.IntN.{pos, _+ℤ_};
+ghost use lib.Signed.{_≤ℤ_};
+ghost use Rattle.court.specs.Bounds.{Within, On-court, In-court};
+ghost use Rattle.court.specs.Frame.{between, stepped, paddle-moved, paddles-moved};
+use crate::HEIGHT;
+use crate::WIDTH;
+use crate::input::Input;
+use crate::state::Paddle;
+use crate::state::State;
+
+pub(crate) const HALF_X: i32 = 512;
+
+pub(crate) const HALF_Y: i32 = 2048;
+
+const LEFT_MOST: i32 = 19968;
+
+const RIGHT_LEAST: i32 = 20992;
+
+const SPEED: i32 = 512;
+
+fn step(back: bool, forth: bool) -> i32
+    ensures { λ r. ⌜ r ≡ stepped back forth ⌝ }
+{
+    if back == forth {
+        0
+    } else if back {
+        -SPEED
+    } else {
+        SPEED
+    }
+}
+
+fn shift(at: i32, back: bool, forth: bool, lo: i32, hi: i32) -> i32
+    requires { ⌜ Within (pos 0) (pos 40960) at ⌝ ∗ ⌜ lo ≤ℤ hi ⌝ }
+    ensures { λ r. ⌜ r ≡ between lo hi (at +ℤ stepped back forth) ⌝ }
+{
+    (at + step(back, forth)).clamp(lo, hi)
+}
+
+fn move_paddle(p: Paddle, input: Input, lo: i32, hi: i32) -> Paddle
+    requires { ⌜ On-court p ⌝ ∗ ⌜ lo ≤ℤ hi ⌝ }
+    ensures { λ r. ⌜ r ≡ paddle-moved lo hi p (input .0) ⌝ }
+{
+    Paddle {
+        x: shift(p.x, input.left(), input.right(), lo, hi),
+        y: shift(p.y, input.up(), input.down(), HALF_Y, HEIGHT - HALF_Y),
+    }
+}
+
+pub(crate) fn move_paddles(s: State, left: Input, right: Input) -> State
+    requires { ⌜ In-court s ⌝ }
+    ensures { λ r. ⌜ r ≡ paddles-moved s (left .0) (right .0) ⌝ }
+{
+    State {
+        left: move_paddle(s.left, left, HALF_X, LEFT_MOST),
+        right: move_paddle(s.right, right, RIGHT_LEAST, WIDTH - HALF_X),
+        ..s
+    }
+}
