@@ -1,6 +1,6 @@
 // What a game holds at one moment. Positions are of middles, in 256ths of a dot, x to the right and y down; velocities are per frame.
 
-#[derive(Clone, Copy)]
+#[derive(Clone, Copy, PartialEq, Eq, Debug)]
 pub struct Ball {
     pub x: i32,
     pub y: i32,
@@ -8,20 +8,20 @@ pub struct Ball {
     pub dy: i32,
 }
 
-#[derive(Clone, Copy)]
+#[derive(Clone, Copy, PartialEq, Eq, Debug)]
 pub struct Paddle {
     pub x: i32,
     pub y: i32,
 }
 
 // Points of seat 0, on the left, and of seat 1, on the right.
-#[derive(Clone, Copy)]
+#[derive(Clone, Copy, PartialEq, Eq, Debug)]
 pub struct Score {
     pub left: u8,
     pub right: u8,
 }
 
-#[derive(Clone, Copy)]
+#[derive(Clone, Copy, PartialEq, Eq, Debug)]
 pub struct State {
     pub ball: Ball,
     pub left: Paddle,
@@ -32,7 +32,7 @@ pub struct State {
 }
 
 // An end of the court, or what stands at it.
-#[derive(Clone, Copy)]
+#[derive(Clone, Copy, PartialEq, Eq, Debug)]
 pub enum Side {
     Left,
     Right,

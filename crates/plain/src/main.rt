@@ -1,0 +1,71 @@
+// The plain game as a program: plays a file of inputs from the start, and prints the state after the last frame.
+//
+//     plain FILE
+//
+// FILE has a byte for each frame, seat 0's input and 16 times seat 1's, and at most 1,000,000 of them.
+ghost use Prim.Native.Nat.{_≤_};
+ghost use Rattle.std.specs.Of.Vec.{vec-len};
+ghost use Rattle.std.specs.Vec.{made};
+use court::State;
+use court_game::plain::play_frames;
+use std::env;
+use std::error::AnyError;
+use std::fs::File;
+use std::io::Read;
+
+const MOST_FRAMES: u64 = 1_000_000;
+
+// The frames of a file, unless they are too many; of a longer file no more is read than shows that.
+fn read_frames(rt: &LibcRuntime, path: &str) -> Result<Vec<u8>, AnyError>
+    ensures { λ r. ⌜ made r (λ v. vec-len v ≤ 1000000) ⌝ }
+{
+    let mut frames = Vec::new(rt.alloc());
+    let file = match File::open(rt, path) {
+        Ok(file) => file,
+        Err(e) => return Err(format!(rt.alloc(), "plain: {path}: {e}")?.into()),
+    };
+    match file.take(MOST_FRAMES + 1).read_to_end(&mut frames) {
+        Ok(_) => {}
+        Err(e) => return Err(format!(rt.alloc(), "plain: {path}: {e}")?.into()),
+    }
+    if frames.len() as u64 > MOST_FRAMES {
+        return Err(format!(rt.alloc(), "plain: {path}: more than {MOST_FRAMES} frames")?.into());
+    }
+    Ok(frames)
+}
+
+fn print_state(rt: &LibcRuntime, frames: usize, s: State) -> Result<(), AnyError> {
+    print!(
+        rt,
+        "beat {frames} ball {} {} way {} {} ",
+        s.ball.x, s.ball.y, s.ball.dx, s.ball.dy
+    )?;
+    print!(
+        rt,
+        "bars {} {} {} {} ",
+        s.left.x, s.left.y, s.right.x, s.right.y
+    )?;
+    println!(
+        rt,
+        "points {} {} wait {}",
+        s.score.left, s.score.right, s.wait
+    )?;
+    Ok(())
+}
+
+fn run(rt: &LibcRuntime) -> Result<(), AnyError> {
+    let mut args = env::args(rt)?.skip(1);
+    let (Some(path), None) = (args.next(), args.next()) else {
+        return Err("usage: plain FILE".into());
+    };
+    let frames = read_frames(rt, path.as_str())?;
+    print_state(rt, frames.len(), play_frames(frames.as_slice()).state)
+}
+
+fn main(rt: LibcRuntime) -> Result<(), AnyError> {
+    let done = run(&rt);
+    if let Err(e) = &done {
+        eprintln!(rt, "{e}")?;
+    }
+    done
+}
