@@ -14,25 +14,25 @@ const DOWN: u8 = 8;
 pub struct Input(pub u8);
 
 impl Input {
-    pub fn left(self) -> bool
+    pub(crate) fn left(self) -> bool
         ensures { λ r. ⌜ r ≡ bit 1 (self .0) ⌝ }
     {
         self.0 & LEFT != 0
     }
 
-    pub fn right(self) -> bool
+    pub(crate) fn right(self) -> bool
         ensures { λ r. ⌜ r ≡ bit 2 (self .0) ⌝ }
     {
         self.0 & RIGHT != 0
     }
 
-    pub fn up(self) -> bool
+    pub(crate) fn up(self) -> bool
         ensures { λ r. ⌜ r ≡ bit 4 (self .0) ⌝ }
     {
         self.0 & UP != 0
     }
 
-    pub fn down(self) -> bool
+    pub(crate) fn down(self) -> bool
         ensures { λ r. ⌜ r ≡ bit 8 (self .0) ⌝ }
     {
         self.0 & DOWN != 0
