@@ -1,6 +1,7 @@
 -- The court as a game, what is promised of it, and games as they come out. Assumes nothing: these are definitions,
 -- and statements that are proved in proofs/.
 use mathlib.Core.Path.{_≡_}
+use mathlib.Core.Bool.{true}
 use mathlib.Core.List.{List, [], _∷_, _++_}
 use Prim.Native.Nat.{ℕ}
 use lib.Dec.{leb}
@@ -10,7 +11,7 @@ use Rattle.std.specs.shelf.Lists.{All}
 use Rattle.court.specs.declared.state.Ball.{Ball}
 use Rattle.court.specs.declared.state.Paddle.{Paddle}
 use Rattle.court.specs.declared.state.State.{State}
-use Rattle.court.specs.Frame.{start, advanced}
+use Rattle.court.specs.Frame.{start, advanced, over}
 use Rattle.court.specs.Bounds.{In-court}
 use Rattle.game.specs.Plain.{Game, Rules, plays}
 
@@ -24,6 +25,10 @@ court-rules = record { game = court-game; fits = λ a. leb a 15 }
 -- ball and paddles stay in the court, whatever the inputs
 abbrev pub Stays-in : Type 0
 Stays-in = (xs ys : List ℕ) → In-court (plays court-game start xs ys)
+
+-- once somebody has nine points nothing changes any more, whatever the inputs
+abbrev pub Rests-at-nine : Type 0
+Rests-at-nine = (s : State) (xs ys : List ℕ) → over s ≡ true → plays court-game s xs ys ≡ s
 
 -- ---- games as they come out
 
