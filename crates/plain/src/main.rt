@@ -1,13 +1,20 @@
 // The plain game as a program: plays a file of inputs from the start, and prints the state after the last frame.
 //
-//     plain FILE
+//     plain FILE [show]
 //
 // FILE has a byte for each frame, seat 0's input and 16 times seat 1's, and at most 1,000,000 of them.
+// With `show` the picture of that state follows, as text.
 ghost use Prim.Native.Nat.{_≤_};
 ghost use Rattle.std.specs.Of.Vec.{vec-len};
 ghost use Rattle.std.specs.Vec.{made};
+use court::Court;
 use court::State;
 use court_game::plain::play_frames;
+use picture::HEIGHT;
+use picture::Refused;
+use picture::WIDTH;
+use picture::draw;
+use picture::text_of;
 use std::env;
 use std::error::AnyError;
 use std::fs::File;
@@ -53,13 +60,43 @@ fn print_state(rt: &LibcRuntime, frames: usize, s: State) -> Result<(), AnyError
     Ok(())
 }
 
-fn run(rt: &LibcRuntime) -> Result<(), AnyError> {
+fn print_picture(rt: &LibcRuntime, court: Court) -> Result<(), AnyError> {
+    let mut picture = vec![in rt.alloc(); 0u8; WIDTH * HEIGHT]?;
+    match draw(court, picture.as_mut_slice()) {
+        Ok(()) => {}
+        Err(Refused::TooShort) => return Err("plain: no room for a picture".into()),
+    }
+    print!(rt, "{}", text_of(rt.alloc(), picture.as_slice())?)?;
+    Ok(())
+}
+
+// The file's name, and whether to show the picture.
+fn arguments(rt: &LibcRuntime) -> Result<(String, bool), AnyError> {
     let mut args = env::args(rt)?.skip(1);
-    let (Some(path), None) = (args.next(), args.next()) else {
-        return Err("usage: plain FILE".into());
-    };
+    let path = args.next();
+    let word = args.next();
+    if let (Some(path), None) = (path, args.next()) {
+        match word {
+            None => return Ok((path, false)),
+            Some(word) => {
+                if word.as_str() == "show" {
+                    return Ok((path, true));
+                }
+            }
+        }
+    }
+    Err("usage: plain FILE [show]".into())
+}
+
+fn run(rt: &LibcRuntime) -> Result<(), AnyError> {
+    let (path, show) = arguments(rt)?;
     let frames = read_frames(rt, path.as_str())?;
-    print_state(rt, frames.len(), play_frames(frames.as_slice()).state)
+    let court = play_frames(frames.as_slice());
+    print_state(rt, frames.len(), court.state)?;
+    if show {
+        print_picture(rt, court)?;
+    }
+    Ok(())
 }
 
 fn main(rt: LibcRuntime) -> Result<(), AnyError> {

@@ -1,0 +1,4 @@
+pub mod Near
+pub mod Paints
+pub mod Rows
+pub mod Texts

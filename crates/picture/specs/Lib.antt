@@ -1,0 +1,4 @@
+pub mod Picture
+pub mod Areas
+pub mod Refusals
+pub mod Text
