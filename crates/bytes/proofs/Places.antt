@@ -1,18 +1,16 @@
 -- Bytes at a place of a list. Assumes nothing.
 use mathlib.Core.Path.{_≡_, refl, sym, ap, _∙_}
-use mathlib.Core.List.{List, [], _∷_, _++_}
+use mathlib.Core.List.{List, _∷_, _++_}
 use Prim.Native.Nat.{ℕ, zero, suc, _+_, _*_, _/_, _%_, _≤_, _<_}
 use native.Mathlib.Omega.{arith}
-use native.Mathlib.Numerals.{add-one}
 use lib.ListN.{length, getD, take, drop}
-use lib.Seq.{drop-cons}
 use borrow.Rule.Slice.PartMut.{putMid}
-use Rattle.std.proofs.shelf.Lists.{drop-drop, take-append-drop}
+use Rattle.std.proofs.shelf.Lists.{drop-drop, drop-more, take-append-drop}
 use Rattle.bytes.specs.Little.{little, number-of, part, overwritten}
 
 -- the first byte of a part, and the others
 pub part-more : (xs : List ℕ) (at n : ℕ) → at < length xs → part xs at (suc n) ≡ getD xs at 0 ∷ part xs (at + 1) n
-part-more xs at n h = rw (add-one, drop-cons xs at 0 h)
+part-more xs at n h = ap (take (suc n)) (drop-more xs at 0 h)
 
 -- the number that a part says, from the number that the part behind its first byte says
 pub number-more : (xs : List ℕ) (at next n : ℕ) → next ≡ at + 1 → at < length xs → number-of (part xs at (suc n)) ≡ getD xs at 0 + 256 * number-of (part xs next n)

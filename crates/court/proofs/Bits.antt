@@ -1,6 +1,6 @@
 -- One bit of a number, by a mask and by a quotient. Assumes nothing.
 use mathlib.Core.Path.{_≡_, ap, _∙_}
-use mathlib.Core.Bool.{true, not}
+use mathlib.Core.Bool.{not}
 use Prim.Native.Nat.{ℕ, zero, suc, _+_, _*_, _/_, _%_, _^_, _<_, _≤_}
 use native.Mathlib.Nat.{div-self, mod-self}
 use native.Mathlib.Omega.{arith}

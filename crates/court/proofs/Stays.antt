@@ -1,7 +1,7 @@
 -- A frame keeps a state in the court. Assumes nothing.
 use mathlib.Core.Path.{_≡_, refl}
 use mathlib.Core.Bool.{Bool, true, false, cond}
-use Prim.Native.Nat.{ℕ, _≤_, _<_, _+_, _%_}
+use Prim.Native.Nat.{ℕ, _<_, _+_, _%_}
 use native.Mathlib.Omega.{arith}
 use lib.Dec.{leb, eqb}
 use lib.IntN.{ℤ, pos, negℤ, _+ℤ_, _-ℤ_}
@@ -13,7 +13,7 @@ use Rattle.court.specs.declared.state.Paddle.{Paddle}
 use Rattle.court.specs.declared.state.Side.{Side}
 use Rattle.court.specs.declared.state.Side.the-variants.{Left, Right}
 use Rattle.court.specs.declared.state.State.{State}
-use Rattle.court.specs.Frame.{between, size, inward, stepped, bit, paddle-moved, paddles-moved, ball-moved, meets, quickened, sixteenth-of, struck, in-goal, serve-ball, awarded, end-at, turned, end-met, ends-met, with-ball, ball-played, advanced, start}
+use Rattle.court.specs.Frame.{between, size, inward, stepped, bit, paddle-moved, paddles-moved, ball-moved, meets, quickened, sixteenth-of, struck, in-goal, serve-ball, end-at, turned, end-met, ends-met, with-ball, ball-played, over, advanced, start}
 use Rattle.court.specs.Bounds.{Within, Flying, Ball-in, Paddle-in, On-court, In-court, In-play}
 
 -- ---- numbers
@@ -206,6 +206,11 @@ advanced-by s a b h false false false e f g =
       right-score = k .right-score;
       wait-in = omega arith;
     })
+
+-- once somebody has nine points nothing changes
+pub frame-rests : (s : State) (a b : ℕ) → over s ≡ true → advanced s a b ≡ s
+unfolding advanced
+frame-rests s a b e = simp e
 
 pub advanced-in : (s : State) (a b : ℕ) → In-court s → In-court (advanced s a b)
 advanced-in s a b h = advanced-by s a b h (leb 9 (s .score .left)) (leb 9 (s .score .right)) (eqb (s .wait) 0) refl refl refl

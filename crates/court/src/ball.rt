@@ -1,7 +1,6 @@
 // Steps 3 and 4 of a frame: the ball goes its way and turns round at the walls, and the paddles send it back.
 ghost use mathlib.Core.Path.{_≡_};
 ghost use lib.IntN.{pos, negℤ};
-ghost use lib.Signed.{_≤ℤ_};
 ghost use Rattle.court.specs.Bounds.{Within, Flying, Ball-in, On-court};
 ghost use Rattle.court.specs.Frame.{sixteenth-of, inward, quickened, bent-by, meets, ball-moved, struck};
 use crate::HEIGHT;

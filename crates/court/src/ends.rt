@@ -1,8 +1,7 @@
 // Step 5 of a frame: the ball past an end of the court.
 ghost use mathlib.Core.Path.{_≡_};
-ghost use lib.IntN.{pos};
 ghost use Rattle.court.specs.Bounds.{Flying, In-play};
-ghost use Rattle.court.specs.Frame.{in-goal, awarded, serve-ball, scored, end-at, turned, end-met, ends-met};
+ghost use Rattle.court.specs.Frame.{in-goal, awarded, serve-ball, scored, turned, end-met, ends-met};
 ghost use Prim.Native.Nat.{_<_, _≤_};
 use crate::WIDTH;
 use crate::ball::HALF;

@@ -6,7 +6,7 @@ use Prim.Native.Nat.{ℕ}
 use Rattle.court.specs.declared.state.State.{State}
 use Rattle.court.specs.Frame.{advanced, over}
 use Rattle.court.specs.Bounds.{In-court}
-use Rattle.court.proofs.Stays.{advanced-in}
+use Rattle.court.proofs.Stays.{advanced-in, frame-rests}
 use Rattle.game.specs.Plain.{plays}
 use Rattle.court_game.specs.Games.{court-game, Rests-at-nine}
 
@@ -15,10 +15,6 @@ unfolding plays
 plays-in s h [] ys = h
 plays-in s h (x ∷ xs) [] = h
 plays-in s h (x ∷ xs) (y ∷ ys) = plays-in (advanced s x y) (advanced-in s x y h) xs ys
-
-frame-rests : (s : State) (a b : ℕ) → over s ≡ true → advanced s a b ≡ s
-unfolding advanced
-frame-rests s a b e = simp e
 
 pub rests : Rests-at-nine
 unfolding plays

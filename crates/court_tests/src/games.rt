@@ -66,35 +66,14 @@ fn turns_round_beside_the_goal() -> Result<(), Fail> {
 
 #[test]
 fn moves_paddles_by_bits() -> Result<(), Fail> {
-    let left = [
-        5u8,
-        5,
-        5,
-        5,
-        5,
-        5,
-        5,
-        5,
-        5,
-        5,
-        10,
-        10,
-        10,
-        10,
-        10,
-        10,
-        10,
-        10,
-        10,
-        10,
-    ];
     let after = State {
         left: Paddle { x: 5632, y: 15360 },
         right: Paddle { x: 40448, y: 5120 },
         wait: 40,
         ..served(512, 256, 0, 0)
     };
-    check_eq(play(&left, &[6u8; 20]).state, after)
+    let half = play(&[5u8; 10], &[6u8; 10]);
+    check_eq(play_on(half, &[10u8; 10], &[6u8; 10]).state, after)
 }
 
 #[test]
@@ -140,7 +119,18 @@ fn goes_on_from_a_state() -> Result<(), Fail> {
     let part = play(&[6u8; 13], &[9u8; 13]);
     check_ne(part.state, whole.state)?;
     check_eq(play_on(part, &[6u8; 27], &[9u8; 27]).state, whole.state)?;
-    check_eq(play_frames(&[150u8; 40]).state, whole.state)
+    match play_frames(&[150u8; 40]) {
+        Ok(court) => check_eq(court.state, whole.state),
+        Err(_) => Err(Fail::new("refused")),
+    }
+}
+
+// A million frames are played, and not one more.
+#[test]
+fn plays_a_million(rt: LibcRuntime) -> Result<(), Fail> {
+    let frames = vec![in rt.alloc(); 0u8; 1_000_001]?;
+    check(play_frames(&frames.as_slice()[0..1_000_000]).is_ok())?;
+    check(play_frames(frames.as_slice()).is_err())
 }
 
 #[test]

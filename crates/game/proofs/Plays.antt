@@ -3,10 +3,8 @@ use mathlib.Core.Path.{_≡_, refl, sym, ap, _∙_}
 use mathlib.Core.List.{List, [], _∷_, _++_, map}
 use Prim.Native.Nat.{ℕ, zero, suc, _+_, _≤_, _<_}
 use native.Mathlib.Omega.{arith}
-use native.Mathlib.Numerals.{add-one}
-use lib.ListN.{length, getD, take, drop}
-use lib.Seq.{drop-cons}
-use Rattle.std.proofs.shelf.Lists.{drop-all}
+use lib.ListN.{length, getD, drop}
+use Rattle.std.proofs.shelf.Lists.{drop-all, drop-more}
 use mathlib.Core.Logic.{_⊎_, inl, inr}
 use Rattle.game.specs.Plain.{Game, plays, seat-0, seat-1, From-saved}
 
@@ -38,7 +36,7 @@ plays-append g s (x ∷ xs) (y ∷ ys) us vs e = plays-append g (g .frame s x y)
 -- frames of one byte: the frame at i, and none behind the last
 pub frames-more : {S : Type 0} (g : Game S) (s t : S) (fs : List ℕ) (i : ℕ) → i < length fs → t ≡ g .frame s (seat-0 (getD fs i 0)) (seat-1 (getD fs i 0)) → plays g t (map seat-0 (drop (i + 1) fs)) (map seat-1 (drop (i + 1) fs)) ≡ plays g s (map seat-0 (drop i fs)) (map seat-1 (drop i fs))
 frames-more g s t fs i h e =
-    let d : drop i fs ≡ getD fs i 0 ∷ drop (i + 1) fs = rw add-one (drop-cons fs i 0 h) in
+    let d : drop i fs ≡ getD fs i 0 ∷ drop (i + 1) fs = drop-more fs i 0 h in
     plays-more g s t (seat-0 (getD fs i 0)) (seat-1 (getD fs i 0)) (map seat-0 (drop i fs)) (map seat-1 (drop i fs)) (map seat-0 (drop (i + 1) fs)) (map seat-1 (drop (i + 1) fs)) (ap (map seat-0) d) (ap (map seat-1) d) e
 
 pub frames-done : {S : Type 0} (g : Game S) (s : S) (fs : List ℕ) (i : ℕ) → length fs ≤ i → plays g s (map seat-0 (drop i fs)) (map seat-1 (drop i fs)) ≡ s

@@ -3,3 +3,4 @@
 // Rests on no other crate.
 pub mod plain;
 pub mod rules;
+pub mod statements;

@@ -3,7 +3,7 @@ ghost use mathlib.Core.List.{List, _++_, map};
 ghost use mathlib.Core.Path.{_≡_};
 ghost use Prim.Native.Nat.{ℕ};
 ghost use lib.ListN.{length};
-ghost use Rattle.game.specs.Plain.{plays, seat-0, seat-1, From-saved};
+ghost use Rattle.game.specs.Plain.{plays, seat-0, seat-1};
 use crate::rules::Game;
 
 // On from a state, as many frames as both seats have inputs. A state that was come to by inputs from the start
@@ -36,8 +36,3 @@ pub fn play_frames<G: Game>(from: G, frames: &[u8]) -> G
     }
     state
 }
-
-// Playing on from a state on the way is playing from the beginning, for the states of every type.
-pub fn from_saved_stands<S>()
-    ensures { λ _. ⌜ From-saved S ⌝ }
-{}

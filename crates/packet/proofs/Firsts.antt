@@ -1,33 +1,27 @@
 -- The first byte that is no input, and a part as far as it is there. Assumes nothing.
 use mathlib.Core.Path.{_≡_, sym, ap, _∙_}
-use mathlib.Core.Bool.{true, false, cond}
-use mathlib.Core.List.{List, [], _∷_}
-use mathlib.Core.Logic.{_⊎_, inl, inr}
-use Prim.Native.Nat.{ℕ, suc, _+_, _-_, _≤_, _<_, min}
+use mathlib.Core.Bool.{true, false}
+use mathlib.Core.List.{List}
+use mathlib.Core.Logic.{inl, inr}
+use Prim.Native.Nat.{ℕ, _+_, _-_, _≤_, _<_, min}
 use native.Mathlib.Omega.{arith}
-use native.Mathlib.Numerals.{add-one}
 use lib.Dec.{leb}
 use lib.ListN.{length, getD, take, drop, length-drop}
-use lib.Seq.{drop-cons}
-use Rattle.std.proofs.shelf.Lists.{drop-all, take-all, take-rest}
+use Rattle.std.proofs.shelf.Lists.{drop-all, drop-more, take-all, take-rest}
 use Rattle.std.proofs.shelf.Tests.{le-leb, lt-leb, cases-lt}
 use Rattle.bytes.specs.Little.{part}
 use Rattle.packet.specs.Inputs.{first-bad}
-
--- what stands at a place, and what stands behind it
-from-here : (xs : List ℕ) (i : ℕ) → i < length xs → drop i xs ≡ getD xs i 0 ∷ drop (i + 1) xs
-from-here xs i h = rw add-one (drop-cons xs i 0 h)
 
 -- at a place: the byte is an input, is none, or there is none
 pub bad-more : (xs : List ℕ) (i : ℕ) → i < length xs → getD xs i 0 ≤ 15 → first-bad (drop i xs) ≡ first-bad (drop (i + 1) xs) + 1
 bad-more xs i h k =
     let e : leb (getD xs i 0) 15 ≡ true = le-leb (getD xs i 0) 15 k in
-    ap first-bad (from-here xs i h) ∙ simp e
+    ap first-bad (drop-more xs i 0 h) ∙ simp e
 
 pub bad-here : (xs : List ℕ) (i : ℕ) → i < length xs → 15 < getD xs i 0 → first-bad (drop i xs) ≡ 0
 bad-here xs i h k =
     let e : leb (getD xs i 0) 15 ≡ false = lt-leb (getD xs i 0) 15 k in
-    ap first-bad (from-here xs i h) ∙ simp e
+    ap first-bad (drop-more xs i 0 h) ∙ simp e
 
 pub bad-none : (xs : List ℕ) (i : ℕ) → length xs ≤ i → first-bad (drop i xs) ≡ 0
 bad-none xs i h = ap first-bad (drop-all i xs h)

@@ -1,21 +1,19 @@
 -- What is read is what was written, and only that. Assumes nothing.
 use mathlib.Core.Path.{_≡_, refl, sym, ap, _∙_, subst}
 use mathlib.Core.Bool.{true}
-use mathlib.Core.List.{List, [], _∷_, _++_}
-use Prim.Native.Nat.{ℕ, _+_, _^_, _≤_, _<_}
+use mathlib.Core.List.{List, _∷_, _++_}
+use Prim.Native.Nat.{ℕ, _+_, _^_, _<_}
 use native.Mathlib.Omega.{arith}
-use native.Mathlib.Numerals.{add-one}
 use lib.ListN.{length, getD, take, drop, length-drop}
-use lib.Seq.{drop-cons}
 use Rattle.std.specs.declared.result.Result.{Result}
 use Rattle.std.specs.declared.result.Result.the-variants.{Ok, Err}
 use Rattle.std.specs.Results.{isErr}
-use Rattle.std.proofs.shelf.Lists.{take-all}
-use Rattle.bytes.specs.Little.{little, number-of, part}
+use Rattle.std.proofs.shelf.Lists.{drop-more, take-all}
+use Rattle.bytes.specs.Little.{little, part}
 use Rattle.bytes.proofs.Numbers.{number-little}
 use Rattle.bytes.proofs.Places.{little-part, part-rest}
 use Rattle.packet.specs.declared.fault.Fault.{Fault}
-use Rattle.packet.specs.Inputs.{inputs-fit, first-bad}
+use Rattle.packet.specs.Inputs.{first-bad}
 use Rattle.packet.specs.Wire.{Message, Proper, message-bytes, first-in, count-in, ack-in, inputs-in, start-checked, rest-checked, reading, Written-read, Read-written, One-at-most, Refused-exactly}
 use Rattle.packet.proofs.Checks.{Started, Ended, started, starts, ended, ends, fit-from-bad, bad-from-fit}
 
@@ -38,9 +36,6 @@ all-right own xs d e = simp (d, e)
 
 -- ---- the bytes of what was read
 
-from-here : (xs : List ℕ) (i to : ℕ) → i < length xs → i + 1 ≡ to → drop i xs ≡ getD xs i 0 ∷ drop to xs
-from-here xs i to h e = (rw add-one (drop-cons xs i 0 h)) ∙ ap (λ k. getD xs i 0 ∷ drop k xs) e
-
 -- all inputs are there
 whole-inputs : (own : ℕ) (xs : List ℕ) → Ended own xs → inputs-in xs ≡ drop 10 xs
 whole-inputs own xs t = take-all (count-in xs) (drop 10 xs) (simp length-drop (omega arith))
@@ -58,10 +53,10 @@ read-back own xs b s t =
     ∙ ap (λ bs. 72 ∷ (first ++ (n ∷ (bs ++ inputs-in xs)))) (little-part xs 4 6 (omega arith) b)
     ∙ ap (λ is. 72 ∷ (first ++ (n ∷ (ack ++ is)))) (whole-inputs own xs t)
     ∙ ap (λ r. 72 ∷ (first ++ (n ∷ r))) (sym (part-rest xs 6 4 10 refl))
-    ∙ ap (λ r. 72 ∷ (first ++ r)) (sym (from-here xs 5 6 (omega arith) refl))
+    ∙ ap (λ r. 72 ∷ (first ++ r)) (sym (drop-more xs 5 0 (omega arith)))
     ∙ ap (λ r. 72 ∷ r) (sym (part-rest xs 1 4 5 refl))
     ∙ ap (λ h. h ∷ drop 1 xs) (sym (s .mark))
-    ∙ sym (from-here xs 0 1 (omega arith) refl)
+    ∙ sym (drop-more xs 0 0 (omega arith))
 
 pub read-proper : (own : ℕ) (xs : List ℕ) → Started xs → Ended own xs → Proper own (message-in xs)
 read-proper own xs s t =

@@ -26,4 +26,4 @@ const MOST_INPUTS: u8 = 120;
 
 const MOST_FRAMES: u64 = 1_000_000;
 
-const MOST_INPUT: u8 = 15;
+const LARGEST_INPUT: u8 = 15;

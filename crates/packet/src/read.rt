@@ -9,9 +9,9 @@ use crate::ACK_AT;
 use crate::COUNT_AT;
 use crate::FIRST_AT;
 use crate::INPUTS_AT;
+use crate::LARGEST_INPUT;
 use crate::MARK;
 use crate::MOST_FRAMES;
-use crate::MOST_INPUT;
 use crate::MOST_INPUTS;
 use crate::fault::Fault;
 use crate::message::Packet;
@@ -22,7 +22,7 @@ fn find_bad(inputs: &[u8]) -> usize
     ensures { λ r. ⌜ r ≡ first-bad (now (inputs .entry)) ⌝ }
 {
     for (i, input) in inputs.iter().enumerate() {
-        let fits = *input <= MOST_INPUT;
+        let fits = *input <= LARGEST_INPUT;
         if !fits {
             return i;
         }

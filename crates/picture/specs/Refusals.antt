@@ -4,8 +4,8 @@ use Rattle.picture.specs.declared.drawing.Refused.{Refused}
 use Rattle.picture.specs.declared.drawing.Refused.the-variants.{TooShort}
 
 -- lent memory that is too short is refusal 5, and the picture is the third slice that is lent
-abbrev pub number-of : Refused → ℕ
-number-of TooShort = 5
+abbrev pub refusal-number : Refused → ℕ
+refusal-number TooShort = 5
 
-abbrev pub place-of : Refused → ℕ
-place-of TooShort = 3
+abbrev pub refusal-place : Refused → ℕ
+refusal-place TooShort = 3

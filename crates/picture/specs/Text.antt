@@ -5,12 +5,12 @@ use Prim.Native.Nat.{ℕ, _+_, _%_}
 use lib.Dec.{eqb}
 
 -- `.` `|` `o` `#` `*` for 0 to 4, and `?` for what is no dot
-abbrev pub letter-of : ℕ → ℕ
-letter-of b = cond (eqb b 0) 46 (cond (eqb b 1) 124 (cond (eqb b 2) 111 (cond (eqb b 3) 35 (cond (eqb b 4) 42 63))))
+abbrev pub character-of : ℕ → ℕ
+character-of b = cond (eqb b 0) 46 (cond (eqb b 1) 124 (cond (eqb b 2) 111 (cond (eqb b 3) 35 (cond (eqb b 4) 42 63))))
 
 -- dot k, and a line's end behind it where it is the last of its row
 abbrev pub dot-text : ℕ → ℕ → List ℕ
-dot-text k b = letter-of b ∷ cond (eqb (k % 160) 159) (10 ∷ []) []
+dot-text k b = character-of b ∷ cond (eqb (k % 160) 159) (10 ∷ []) []
 
 -- the dots from dot k on
 unfoldable pub text-from : ℕ → List ℕ → List ℕ

@@ -6,7 +6,7 @@ ghost use lib.Dec.{leb};
 ghost use lib.ListN.{length, drop};
 ghost use Rattle.std.specs.declared.result.Result.the-variants.{Ok, Err};
 ghost use Rattle.picture.specs.Picture.{picture-of};
-ghost use Rattle.picture.specs.Refusals.{number-of, place-of};
+ghost use Rattle.picture.specs.Refusals.{refusal-number, refusal-place};
 use crate::HEIGHT;
 use crate::WIDTH;
 use crate::areas::areas_of;
@@ -21,7 +21,7 @@ pub enum Refused {
 
 impl Refused {
     pub fn number(self) -> u8
-        ensures { λ r. ⌜ r ≡ number-of self ⌝ }
+        ensures { λ r. ⌜ r ≡ refusal-number self ⌝ }
     {
         match self {
             Refused::TooShort => 5,
@@ -29,7 +29,7 @@ impl Refused {
     }
 
     pub fn place(self) -> usize
-        ensures { λ r. ⌜ r ≡ place-of self ⌝ }
+        ensures { λ r. ⌜ r ≡ refusal-place self ⌝ }
     {
         match self {
             Refused::TooShort => 3,

@@ -3,7 +3,7 @@ ghost use mathlib.Core.List.{_++_};
 ghost use mathlib.Core.Path.{_≡_};
 ghost use Rattle.std.specs.Of.String.{string-bytes};
 ghost use Rattle.std.specs.Vec.{made};
-ghost use Rattle.picture.specs.Text.{letter-of, dot-text, text-from};
+ghost use Rattle.picture.specs.Text.{character-of, dot-text, text-from};
 use crate::BALL;
 use crate::DIGIT;
 use crate::LINE;
@@ -12,8 +12,8 @@ use crate::WIDTH;
 use std::alloc::AllocError;
 use std::alloc::Global;
 
-fn letter(dot: u8) -> char
-    ensures { λ r. ⌜ r ≡ letter-of dot ⌝ }
+fn character(dot: u8) -> char
+    ensures { λ r. ⌜ r ≡ character-of dot ⌝ }
 {
     match dot {
         0 => '.',
@@ -29,7 +29,7 @@ fn letter(dot: u8) -> char
 fn push_dot(text: &mut String, k: usize, dot: u8) -> Result<(), AllocError>
     ensures { λ r. ⌜ made r (λ _. string-bytes (now (text .exit)) ≡ string-bytes (now (text .entry)) ++ dot-text k dot) ⌝ }
 {
-    text.push(letter(dot))?;
+    text.push(character(dot))?;
     let last = k % WIDTH == WIDTH - 1;
     if last {
         text.push('\n')?;

@@ -122,10 +122,14 @@ fn show_paddles(rt: &LibcRuntime) -> Result<(), AnyError> {
     let left = Paddle { x: 512, y: 2048 };
     let right = Paddle { x: 40448, y: 28672 };
     let none = Score { left: 0, right: 0 };
-    show(rt, "upper left", court_of(512, 512, left, right, none))?;
+    show(rt, "two corners", court_of(512, 512, left, right, none))?;
     let left = Paddle { x: 512, y: 28672 };
     let right = Paddle { x: 40448, y: 2048 };
-    show(rt, "lower left", court_of(40448, 30208, left, right, none))?;
+    show(
+        rt,
+        "the other corners",
+        court_of(40448, 30208, left, right, none),
+    )?;
     let left = Paddle { x: 19968, y: 2048 };
     let right = Paddle { x: 20992, y: 4000 };
     let score = Score { left: 3, right: 4 };
@@ -171,7 +175,7 @@ fn main(rt: LibcRuntime) -> Result<(), AnyError> {
     let left = Paddle { x: 5300, y: 10000 };
     let right = Paddle { x: 34000, y: 9900 };
     let court = court_of(5000, 9000, left, right, Score { left: 3, right: 7 });
-    show(&rt, "ball over paddle", court)?;
+    show(&rt, "paddle over ball", court)?;
     show_in(&rt, "too short", court, LENGTH - 1)?;
     show_in(&rt, "empty", court, 0)?;
     show_in(&rt, "longer", court, LENGTH + 3)?;

@@ -4,11 +4,10 @@
 //
 // FILE has a byte for each frame, seat 0's input and 16 times seat 1's, and at most 1,000,000 of them.
 // With `show` the picture of that state follows, as text.
-ghost use Prim.Native.Nat.{_≤_};
-ghost use Rattle.std.specs.Of.Vec.{vec-len};
-ghost use Rattle.std.specs.Vec.{made};
 use court::Court;
 use court::State;
+use court_game::plain::MOST_FRAMES;
+use court_game::plain::Unplayed;
 use court_game::plain::play_frames;
 use picture::HEIGHT;
 use picture::Refused;
@@ -20,23 +19,16 @@ use std::error::AnyError;
 use std::fs::File;
 use std::io::Read;
 
-const MOST_FRAMES: u64 = 1_000_000;
-
-// The frames of a file, unless they are too many; of a longer file no more is read than shows that.
-fn read_frames(rt: &LibcRuntime, path: &str) -> Result<Vec<u8>, AnyError>
-    ensures { λ r. ⌜ made r (λ v. vec-len v ≤ 1000000) ⌝ }
-{
+// The frames of a file; of one with too many, no more than show that.
+fn read_frames(rt: &LibcRuntime, path: &str) -> Result<Vec<u8>, AnyError> {
     let mut frames = Vec::new(rt.alloc());
     let file = match File::open(rt, path) {
         Ok(file) => file,
         Err(e) => return Err(format!(rt.alloc(), "plain: {path}: {e}")?.into()),
     };
-    match file.take(MOST_FRAMES + 1).read_to_end(&mut frames) {
+    match file.take(MOST_FRAMES as u64 + 1).read_to_end(&mut frames) {
         Ok(_) => {}
         Err(e) => return Err(format!(rt.alloc(), "plain: {path}: {e}")?.into()),
-    }
-    if frames.len() as u64 > MOST_FRAMES {
-        return Err(format!(rt.alloc(), "plain: {path}: more than {MOST_FRAMES} frames")?.into());
     }
     Ok(frames)
 }
@@ -91,7 +83,15 @@ fn arguments(rt: &LibcRuntime) -> Result<(String, bool), AnyError> {
 fn run(rt: &LibcRuntime) -> Result<(), AnyError> {
     let (path, show) = arguments(rt)?;
     let frames = read_frames(rt, path.as_str())?;
-    let court = play_frames(frames.as_slice());
+    let court = match play_frames(frames.as_slice()) {
+        Ok(court) => court,
+        Err(Unplayed::TooMany) => {
+            return Err(format!(
+                rt.alloc(),
+                "plain: {path}: more than {MOST_FRAMES} frames"
+            )?.into());
+        }
+    };
     print_state(rt, frames.len(), court.state)?;
     if show {
         print_picture(rt, court)?;

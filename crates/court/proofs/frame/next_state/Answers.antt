@@ -8,15 +8,11 @@ use Rattle.std.proofs.shelf.Ways.{tells}
 use Rattle.court.specs.declared.state.State.{State}
 use Rattle.court.specs.Bounds.{In-court}
 use Rattle.court.specs.Frame.{over, advanced, ball-played, waited, paddles-moved}
-use Rattle.court.proofs.Stays.{advanced-in, paddles-in}
+use Rattle.court.proofs.Stays.{advanced-in, frame-rests, paddles-in}
 use Rattle.court.proofs.frame.next_state.Needs as need
 
 not-over : (s : State) → over s ≡ false → (s .score .left < 9) × (s .score .right < 9)
 not-over s e = (grind (arith, tells), grind (arith, tells))
-
-when-over : (s : State) (a b : ℕ) → over s ≡ true → s ≡ advanced s a b
-unfolding advanced
-when-over s a b e = simp e
 
 when-played : (s : State) (a b : ℕ) → over s ≡ false → s .wait ≡ 0 → ball-played (paddles-moved s a b) ≡ advanced s a b
 unfolding advanced
@@ -27,7 +23,7 @@ unfolding advanced
 when-waited s a b e w = let f : eqb (s .wait) 0 ≡ false = ne-eqb (s .wait) 0 w in simp (e, f)
 
 pub returns-then-is-over : need.returns-then-is-over
-returns-then-is-over c = record { value = when-over (c .args .s) _ _ (sym (c .if-is-over .ensures tt)); inside = c .pre }
+returns-then-is-over c = record { value = sym (frame-rests (c .args .s) _ _ (sym (c .if-is-over .ensures tt))); inside = c .pre }
 
 pub play-ball-requires : need.play-ball-requires
 play-ball-requires c κs =

@@ -1,7 +1,7 @@
 use mathlib.Core.Path.{_≡_, sym, subst}
-use Rattle.court.specs.Bounds.{Flying, In-play}
+use Rattle.court.specs.Bounds.{Flying}
 use Rattle.court.specs.declared.state.Side.the-variants.{Left, Right}
-use Rattle.court.specs.Frame.{struck, ball-moved, with-ball, ball-played, ends-met}
+use Rattle.court.specs.Frame.{struck, ball-moved, ball-played}
 use Rattle.court.proofs.Stays.{moved-in, struck-in, left-on, right-on, ball-flies, in-play}
 use Rattle.court.proofs.frame.play_ball.Needs as need
 

@@ -1,4 +1,4 @@
-use mathlib.Core.Path.{_≡_, refl, sym, _∙_}
+use mathlib.Core.Path.{refl, sym, _∙_}
 use native.Mathlib.Omega.{arith}
 use Rattle.game.proofs.Plays.{frames-more, frames-done}
 use Rattle.game.proofs.plain.play_frames.Needs as need

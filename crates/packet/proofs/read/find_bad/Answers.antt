@@ -1,4 +1,3 @@
-use mathlib.Core.Path.{_≡_, sym, ap, _∙_}
 use native.Mathlib.Omega.{arith}
 use Rattle.packet.proofs.Firsts.{bad-more, bad-here, bad-none}
 use Rattle.packet.proofs.read.find_bad.Needs as need

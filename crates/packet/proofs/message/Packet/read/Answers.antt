@@ -1,13 +1,12 @@
-use mathlib.Core.Path.{_≡_, sym, ap, _∙_, subst}
-use Prim.Native.Nat.{ℕ, _+_, _-_}
+use mathlib.Core.Path.{sym, ap, _∙_, subst}
+use Prim.Native.Nat.{_+_, _-_}
 use native.Mathlib.Omega.{arith}
-use lib.ListN.{length, getD, take, drop}
 use Rattle.std.specs.declared.result.Result.{Result}
-use Rattle.std.specs.declared.result.Result.the-variants.{Ok, Err}
+use Rattle.std.specs.declared.result.Result.the-variants.{Ok}
 use Rattle.std.proofs.shelf.Results.{err-from-errBy}
 use Rattle.packet.specs.declared.fault.Fault.{Fault}
 use Rattle.packet.specs.Wire.{Message, Proper, message-bytes}
-use Rattle.packet.proofs.Checks.{Started, Ended, started, ended}
+use Rattle.packet.proofs.Checks.{started, ended}
 use Rattle.packet.proofs.Readings.{bad-start, bad-rest, all-right, read-back, read-proper, as-read}
 use Rattle.packet.proofs.message.Packet.read.Needs as need
 
