@@ -5,6 +5,7 @@
 use court::Court;
 use court::Input;
 use packet::Packet;
+use picture::LENGTH;
 use picture::draw;
 use std::env;
 use std::error::AnyError;
@@ -29,7 +30,7 @@ fn pictures(count: u32, picture: &mut [u8]) -> u64 {
     for frame in 0..count {
         court = next(court, frame);
         let _ = draw(court, picture);
-        let at = frame as usize * 7919 % 19200;
+        let at = frame as usize * 7919 % LENGTH;
         if at < picture.len() {
             sum = sum.wrapping_add(u64::from(picture[at]));
         }
@@ -63,7 +64,7 @@ fn run(rt: &LibcRuntime) -> Result<(), AnyError> {
     let count = count.as_str().parse::<u32>()?;
     let sum = match what.as_str() {
         "pictures" => {
-            let mut picture = vec![in rt.alloc(); 0u8; 19200]?;
+            let mut picture = vec![in rt.alloc(); 0u8; LENGTH]?;
             pictures(count, picture.as_mut_slice())
         }
         "packets" => {

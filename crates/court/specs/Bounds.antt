@@ -10,7 +10,7 @@ use Rattle.court.specs.Frame.{court-width, court-height, ball-half, paddle-hal
 abbrev pub Within : ℤ → ℤ → ℤ → Type 0
 Within lo hi a = (lo ≤ℤ a) × (a ≤ℤ hi)
 
--- the ball between two moments of a frame: its x may be past an end, by less than it goes in a frame
+-- the ball between two moments of a frame: its x may be past an end, by at most the top speed
 pub record Flying (b : Ball) : Type 0 where
   pub x : Within (negℤ (pos 1024)) (pos 41984) (b .x)
   pub y : Within ball-half (court-height -ℤ ball-half) (b .y)

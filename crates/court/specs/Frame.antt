@@ -91,12 +91,12 @@ paddles-moved s a b =
       wait = s .wait;
     }
 
--- ---- 2. while the ball waits, that is all
+-- ---- 2. while the ball waits, the wait falls, and that is all
 
 abbrev pub waited : State → State
 waited s = record { ball = s .ball; left = s .left; right = s .right; score = s .score; wait = s .wait - 1 }
 
--- ---- 3. the ball goes its way, and turns round at the upper and the lower wall
+-- ---- 3. the ball moves by its velocity, and turns round at the upper and the lower wall
 
 unfoldable pub ball-moved : Ball → Ball
 ball-moved b =

@@ -1,16 +1,15 @@
-// Steps 3 and 4 of a frame: the ball goes its way and turns round at the walls, and the paddles send it back.
+// Steps 3 and 4 of a frame: the ball moves by its velocity and turns round at the walls, and the paddles send it back.
 ghost use mathlib.Core.Path.{_≡_};
 ghost use lib.IntN.{pos, negℤ};
 ghost use Rattle.court.specs.Bounds.{Within, Flying, Ball-in, On-court};
 ghost use Rattle.court.specs.Frame.{sixteenth-of, inward, quickened, bent-by, meets, ball-moved, struck};
+use crate::BALL_HALF;
 use crate::HEIGHT;
-use crate::paddle::HALF_X;
-use crate::paddle::HALF_Y;
+use crate::PADDLE_HALF_X;
+use crate::PADDLE_HALF_Y;
 use crate::state::Ball;
 use crate::state::Paddle;
 use crate::state::Side;
-
-pub(crate) const HALF: i32 = 512;
 
 const TOP_SPEED: i32 = 1536;
 
@@ -33,19 +32,19 @@ pub(crate) fn move_ball(b: Ball) -> Ball
 {
     let x = b.x + b.dx;
     let y = b.y + b.dy;
-    let above = y < HALF;
-    let below = y > HEIGHT - HALF;
+    let above = y < BALL_HALF;
+    let below = y > HEIGHT - BALL_HALF;
     if above {
         Ball {
             x,
-            y: HALF,
+            y: BALL_HALF,
             dx: b.dx,
             dy: b.dy.abs(),
         }
     } else if below {
         Ball {
             x,
-            y: HEIGHT - HALF,
+            y: HEIGHT - BALL_HALF,
             dx: b.dx,
             dy: -b.dy.abs(),
         }
@@ -63,7 +62,7 @@ fn touches(b: Ball, p: Paddle) -> bool
     requires { ⌜ Flying b ⌝ ∗ ⌜ On-court p ⌝ }
     ensures { λ r. ⌜ r ≡ meets b p ⌝ }
 {
-    (b.x - p.x).abs() < HALF_X + HALF && (b.y - p.y).abs() < HALF_Y + HALF
+    (b.x - p.x).abs() < PADDLE_HALF_X + BALL_HALF && (b.y - p.y).abs() < PADDLE_HALF_Y + BALL_HALF
 }
 
 fn sixteenth(d: i32) -> i32
@@ -96,7 +95,7 @@ pub(crate) fn strike(side: Side, p: Paddle, b: Ball) -> Ball
         return b;
     }
     Ball {
-        x: p.x + into_court(side, HALF_X + HALF),
+        x: p.x + into_court(side, PADDLE_HALF_X + BALL_HALF),
         y: b.y,
         dx: into_court(side, quicken(b.dx)),
         dy: bend(b.dy, b.y - p.y),

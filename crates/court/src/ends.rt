@@ -3,8 +3,8 @@ ghost use mathlib.Core.Path.{_≡_};
 ghost use Rattle.court.specs.Bounds.{Flying, In-play};
 ghost use Rattle.court.specs.Frame.{in-goal, awarded, serve-ball, scored, turned, end-met, ends-met};
 ghost use Prim.Native.Nat.{_<_, _≤_};
+use crate::BALL_HALF;
 use crate::WIDTH;
-use crate::ball::HALF;
 use crate::ball::into_court;
 use crate::state::Ball;
 use crate::state::Score;
@@ -21,7 +21,7 @@ fn is_goal(y: i32) -> bool
     GOAL_TOP <= y && y <= GOAL_BOTTOM
 }
 
-// The score, where the ball went out at one end.
+// A point for the seat at the other end.
 fn award(out: Side, score: Score) -> Score
     requires { ⌜ score .left < 9 ⌝ ∗ ⌜ score .right < 9 ⌝ }
     ensures { λ r. ⌜ r ≡ awarded out score ⌝ }
@@ -70,8 +70,8 @@ fn turn(end: Side, b: Ball) -> Ball
     ensures { λ r. ⌜ r ≡ turned end b ⌝ }
 {
     let x = match end {
-        Side::Left => HALF,
-        Side::Right => WIDTH - HALF,
+        Side::Left => BALL_HALF,
+        Side::Right => WIDTH - BALL_HALF,
     };
     Ball {
         x,
@@ -98,8 +98,8 @@ pub(crate) fn meet_ends(s: State) -> State
     requires { ⌜ In-play s ⌝ }
     ensures { λ r. ⌜ r ≡ ends-met s ⌝ }
 {
-    let past_left = s.ball.x < HALF;
-    let past_right = s.ball.x > WIDTH - HALF;
+    let past_left = s.ball.x < BALL_HALF;
+    let past_right = s.ball.x > WIDTH - BALL_HALF;
     if past_left {
         meet_end(Side::Left, s)
     } else if past_right {

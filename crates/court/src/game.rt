@@ -12,7 +12,8 @@ use crate::state::State;
 
 impl Court {
     pub fn new() -> Court
-        ensures { λ r. ⌜ r .state ≡ start ⌝ }
+        ensures value { λ r. ⌜ r .state ≡ start ⌝ }
+        ensures inside { λ r. ⌜ In-court (r .state) ⌝ }
     {
         Court {
             state: State {
@@ -30,7 +31,6 @@ impl Court {
         }
     }
 
-    // One frame, with both seats' inputs.
     pub fn frame(self, left: Input, right: Input) -> Court
         ensures value { λ r. ⌜ r .state ≡ advanced (self .state) (left .0) (right .0) ⌝ }
         ensures inside { λ r. ⌜ In-court (r .state) ⌝ }

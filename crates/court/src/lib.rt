@@ -14,7 +14,13 @@ pub use bounded::Court;
 pub use input::Input;
 pub use state::State;
 
-// The court's sides, in 256ths of a dot.
-const WIDTH: i32 = 40960;
+// The court's sides, and half the sides of the ball and of a paddle, in 256ths of a dot.
+pub const WIDTH: i32 = 40960;
 
-const HEIGHT: i32 = 30720;
+pub const HEIGHT: i32 = 30720;
+
+pub const BALL_HALF: i32 = 512;
+
+pub const PADDLE_HALF_X: i32 = 512;
+
+pub const PADDLE_HALF_Y: i32 = 2048;

@@ -5,14 +5,12 @@ ghost use lib.Signed.{_≤ℤ_};
 ghost use Rattle.court.specs.Bounds.{Within, On-court, In-court};
 ghost use Rattle.court.specs.Frame.{between, stepped, paddle-moved, paddles-moved};
 use crate::HEIGHT;
+use crate::PADDLE_HALF_X;
+use crate::PADDLE_HALF_Y;
 use crate::WIDTH;
 use crate::input::Input;
 use crate::state::Paddle;
 use crate::state::State;
-
-pub(crate) const HALF_X: i32 = 512;
-
-pub(crate) const HALF_Y: i32 = 2048;
 
 const LEFT_MOST: i32 = 19968;
 
@@ -45,7 +43,13 @@ fn move_paddle(p: Paddle, input: Input, lo: i32, hi: i32) -> Paddle
 {
     Paddle {
         x: shift(p.x, input.left(), input.right(), lo, hi),
-        y: shift(p.y, input.up(), input.down(), HALF_Y, HEIGHT - HALF_Y),
+        y: shift(
+            p.y,
+            input.up(),
+            input.down(),
+            PADDLE_HALF_Y,
+            HEIGHT - PADDLE_HALF_Y,
+        ),
     }
 }
 
@@ -54,8 +58,8 @@ pub(crate) fn move_paddles(s: State, left: Input, right: Input) -> State
     ensures { λ r. ⌜ r ≡ paddles-moved s (left .0) (right .0) ⌝ }
 {
     State {
-        left: move_paddle(s.left, left, HALF_X, LEFT_MOST),
-        right: move_paddle(s.right, right, RIGHT_LEAST, WIDTH - HALF_X),
+        left: move_paddle(s.left, left, PADDLE_HALF_X, LEFT_MOST),
+        right: move_paddle(s.right, right, RIGHT_LEAST, WIDTH - PADDLE_HALF_X),
         ..s
     }
 }

@@ -7,7 +7,7 @@ use court::state::Paddle;
 use court::state::Score;
 use std::test::*;
 
-// The ball after a frame in which nobody moves, from a place and a velocity, with the paddles at the start.
+// The ball after a frame in which nobody moves, from a position and a velocity, with the paddles at the start.
 fn ball_after(x: i32, y: i32, dx: i32, dy: i32) -> Option<Ball> {
     if x < 512 || x > 40448 || y < 512 || y > 30208 {
         return None;
@@ -51,7 +51,7 @@ fn reach_of_paddles() -> Result<(), Fail> {
     check_ball((37377, 15360, 512, 0), (37888, 15360, -544, 0))
 }
 
-// It bends the ball's way by a sixteenth of the distance, rounded toward 0, and makes it faster, up to a limit.
+// It changes the ball's velocity in y by a sixteenth of the distance, rounded toward 0, and makes it faster, up to a limit.
 #[test]
 fn bend_and_speed() -> Result<(), Fail> {
     check_ball((3583, 15345, -512, 0), (3072, 15345, 544, 0))?;

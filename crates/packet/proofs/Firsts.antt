@@ -11,6 +11,7 @@ use Rattle.std.proofs.shelf.Lists.{drop-all, drop-more, take-all, take-rest}
 use Rattle.std.proofs.shelf.Tests.{le-leb, lt-leb, cases-lt}
 use Rattle.bytes.specs.Little.{part}
 use Rattle.packet.specs.Inputs.{first-bad}
+use Rattle.packet.specs.Wire.{count-in, inputs-in}
 
 -- at a place: the byte is an input, is none, or there is none
 pub bad-more : (xs : List ℕ) (i : ℕ) → i < length xs → getD xs i 0 ≤ 15 → first-bad (drop i xs) ≡ first-bad (drop (i + 1) xs) + 1
@@ -36,3 +37,12 @@ part-most xs at n to h e =
           ap (λ k. take k (drop at xs)) m ∙ take-rest xs at ∙ sym (take-all n (drop at xs) whole)
       | inr l ↦ let m : to - at ≡ n = omega arith in ap (λ k. take k (drop at xs)) m
     ]
+
+-- the inputs as far as they are there, and where the first of them stands that is none
+pub record Searched (xs ys : List ℕ) (bad : ℕ) : Type 0 where
+  pub first : bad ≡ first-bad (inputs-in xs)
+  pub many : length ys ≡ length (inputs-in xs)
+
+pub searched : (xs : List ℕ) (to bad : ℕ) → 10 ≤ length xs → to ≡ min (length xs) (10 + count-in xs) → bad ≡ first-bad (take (to - 10) (drop 10 xs)) → Searched xs (take (to - 10) (drop 10 xs)) bad
+searched xs to bad h e f =
+    let p = part-most xs 10 (count-in xs) to h e in record { first = f ∙ ap first-bad p; many = ap length p }

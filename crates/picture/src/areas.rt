@@ -4,18 +4,12 @@ ghost use lib.IntN.{pos, _-ℤ_};
 ghost use lib.Signed.{_≤ℤ_};
 ghost use Rattle.court.specs.Bounds.{In-court};
 ghost use Rattle.picture.specs.Areas.{in-run, Covers, Covered};
+use court::BALL_HALF;
+use court::HEIGHT;
+use court::PADDLE_HALF_X;
+use court::PADDLE_HALF_Y;
 use court::State;
-
-// The court's sides, and half the sides of the ball and of a paddle, in 256ths of a dot.
-const COURT_WIDTH: i32 = 40960;
-
-const COURT_HEIGHT: i32 = 30720;
-
-const HALF_BALL: i32 = 512;
-
-const HALF_PADDLE_X: i32 = 512;
-
-const HALF_PADDLE_Y: i32 = 2048;
+use court::WIDTH;
 
 // From a place up to, but without, another.
 #[derive(Clone, Copy)]
@@ -55,23 +49,22 @@ fn run_of(position: i32, half: i32, side: i32) -> Run
     Run { from, to }
 }
 
-// Where ball and paddles are seen.
 pub(crate) fn areas_of(s: State) -> Areas
     requires { ⌜ In-court s ⌝ }
     ensures { λ r. ⌜ Covered s r ⌝ }
 {
     Areas {
         ball: Area {
-            columns: run_of(s.ball.x, HALF_BALL, COURT_WIDTH),
-            rows: run_of(s.ball.y, HALF_BALL, COURT_HEIGHT),
+            columns: run_of(s.ball.x, BALL_HALF, WIDTH),
+            rows: run_of(s.ball.y, BALL_HALF, HEIGHT),
         },
         left: Area {
-            columns: run_of(s.left.x, HALF_PADDLE_X, COURT_WIDTH),
-            rows: run_of(s.left.y, HALF_PADDLE_Y, COURT_HEIGHT),
+            columns: run_of(s.left.x, PADDLE_HALF_X, WIDTH),
+            rows: run_of(s.left.y, PADDLE_HALF_Y, HEIGHT),
         },
         right: Area {
-            columns: run_of(s.right.x, HALF_PADDLE_X, COURT_WIDTH),
-            rows: run_of(s.right.y, HALF_PADDLE_Y, COURT_HEIGHT),
+            columns: run_of(s.right.x, PADDLE_HALF_X, WIDTH),
+            rows: run_of(s.right.y, PADDLE_HALF_Y, HEIGHT),
         },
     }
 }

@@ -8,6 +8,7 @@ ghost use Rattle.std.specs.declared.result.Result.the-variants.{Ok, Err};
 ghost use Rattle.picture.specs.Picture.{picture-of};
 ghost use Rattle.picture.specs.Refusals.{refusal-number, refusal-place};
 use crate::HEIGHT;
+use crate::LENGTH;
 use crate::WIDTH;
 use crate::areas::areas_of;
 use crate::row::draw_row;
@@ -42,7 +43,7 @@ pub fn draw(court: Court, picture: &mut [u8]) -> Result<(), Refused>
     ensures value { λ r. ⌜ r ≡ cond (leb 19200 (length (now (picture .entry)))) (Ok tt) (Err Refused.TooShort) ⌝ }
     ensures picture { λ _. ⌜ now (picture .exit) ≡ cond (leb 19200 (length (now (picture .entry)))) (picture-of (court .state) ++ drop 19200 (now (picture .entry))) (now (picture .entry)) ⌝ }
 {
-    let short = picture.len() < WIDTH * HEIGHT;
+    let short = picture.len() < LENGTH;
     if short {
         return Err(Refused::TooShort);
     }

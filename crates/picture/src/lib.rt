@@ -17,6 +17,9 @@ pub const WIDTH: usize = 160;
 
 pub const HEIGHT: usize = 120;
 
+// Bytes of a picture.
+pub const LENGTH: usize = 19200;
+
 // Bytes of dots. One that is none of these is 0.
 pub const LINE: u8 = 1;
 

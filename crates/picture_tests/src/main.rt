@@ -12,11 +12,10 @@ use court::state::Ball;
 use court::state::Paddle;
 use court::state::Score;
 use court_game::plain::play;
+use picture::LENGTH;
 use picture::draw;
 use picture::text_of;
 use std::error::AnyError;
-
-const LENGTH: usize = 19200;
 
 // What stands in lent memory before a picture is drawn; no dot has this byte.
 const BEFORE: u8 = 9;

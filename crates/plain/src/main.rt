@@ -9,9 +9,8 @@ use court::State;
 use court_game::plain::MOST_FRAMES;
 use court_game::plain::Unplayed;
 use court_game::plain::play_frames;
-use picture::HEIGHT;
+use picture::LENGTH;
 use picture::Refused;
-use picture::WIDTH;
 use picture::draw;
 use picture::text_of;
 use std::env;
@@ -53,7 +52,7 @@ fn print_state(rt: &LibcRuntime, frames: usize, s: State) -> Result<(), AnyError
 }
 
 fn print_picture(rt: &LibcRuntime, court: Court) -> Result<(), AnyError> {
-    let mut picture = vec![in rt.alloc(); 0u8; WIDTH * HEIGHT]?;
+    let mut picture = vec![in rt.alloc(); 0u8; LENGTH]?;
     match draw(court, picture.as_mut_slice()) {
         Ok(()) => {}
         Err(Refused::TooShort) => return Err("plain: no room for a picture".into()),
