@@ -3,4 +3,5 @@
 // Rests on no other crate.
 pub mod plain;
 pub mod rules;
+pub mod seat;
 pub mod statements;

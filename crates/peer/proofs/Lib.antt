@@ -1,0 +1,4 @@
+pub mod Logs
+pub mod Happens
+pub mod Rowed
+pub mod Shows

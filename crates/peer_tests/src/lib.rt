@@ -1,0 +1,4 @@
+// Tests of a peer: the court over lent memory.
+
+#[cfg(test)]
+mod events;
