@@ -11,7 +11,7 @@ ghost use Rattle.peer.specs.Said.{begin-checked};
 ghost use Rattle.peer.specs.Peers.{shows};
 ghost use Rattle.peer.specs.declared.outcome.Outcome.the-variants.{Taken};
 ghost use Rattle.picture.specs.Picture.{picture-of};
-ghost use Rattle.session.specs.Events.{event-of};
+ghost use Rattle.session.specs.Events.{event-of, said};
 ghost use Rattle.session.specs.Refusals.{as-begun, said-begun, said-drawn};
 use crate::event::Happening;
 use crate::refused::Refused;
@@ -50,6 +50,7 @@ pub fn begin(
 
 // One event.
 pub fn happen(p: &mut Peer, inputs: &mut [u8], event: Happening) -> Outcome
+    ensures answer { λ r. ⌜ r ≡ said (λ a. leb a 15) (now (p .entry) .window) (length (now (inputs .entry))) (log-of (now (p .entry)) (now (inputs .entry))) (event-of (event .entry)) ⌝ }
     ensures happens { λ _. ⌜ Happened (λ a. leb a 15) (now (p .entry)) (now (inputs .entry)) (event-of (event .entry)) (now (p .exit)) (now (inputs .exit)) ⌝ }
     ensures idle { λ r. ⌜ ((r ≡ Taken → ⊥) → (now (p .exit) ≡ now (p .entry)) × (now (inputs .exit) ≡ now (inputs .entry))) ⌝ }
 {

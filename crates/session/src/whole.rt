@@ -9,6 +9,8 @@ ghost use Rattle.peer.specs.Lent.{log-of, Long};
 ghost use Rattle.peer.specs.Rows.{Stands-for};
 ghost use Rattle.peer.specs.Said.{begin-checked};
 ghost use Rattle.picture.specs.Picture.{picture-of};
+ghost use mathlib.Core.Bool.{true};
+ghost use Rattle.std.specs.Results.{isErr};
 ghost use Rattle.std.specs.Vec.{made};
 ghost use Rattle.session.specs.Events.{event-of};
 ghost use Rattle.session.specs.Refusals.{as-begun, said-begun};
@@ -41,6 +43,7 @@ pub fn play_session(
     events: &[Happening],
 ) -> Result<Peer, Refused>
     ensures answer { λ r. ⌜ as-begun r ≡ said-begun (begin-checked window (length (now (inputs .entry))) (length (now (states .entry)))) (length (now (picture .entry))) ⌝ }
+    ensures idle { λ r. ⌜ (isErr r ≡ true → (now (inputs .exit) ≡ now (inputs .entry)) × (now (picture .exit) ≡ now (picture .entry))) ⌝ }
     ensures log { λ r. ⌜ made r (λ p. log-of p (now (inputs .exit)) ≡ run (λ a. leb a 15) window new-log (map event-of (now (events .entry)))) ⌝ }
     ensures shown { λ r. ⌜ made r (λ _. now (picture .exit) ≡ picture-of (shows court-game seat (run (λ a. leb a 15) window new-log (map event-of (now (events .entry))))) ++ drop 19200 (now (picture .entry))) ⌝ }
 {

