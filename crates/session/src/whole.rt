@@ -44,7 +44,7 @@ pub fn play_session(
 ) -> Result<Peer, Refused>
     ensures answer { λ r. ⌜ as-begun r ≡ said-begun (begin-checked window (length (now (inputs .entry))) (length (now (states .entry)))) (length (now (picture .entry))) ⌝ }
     ensures idle { λ r. ⌜ (isErr r ≡ true → (now (inputs .exit) ≡ now (inputs .entry)) × (now (picture .exit) ≡ now (picture .entry))) ⌝ }
-    ensures log { λ r. ⌜ made r (λ p. log-of p (now (inputs .exit)) ≡ run (λ a. leb a 15) window new-log (map event-of (now (events .entry)))) ⌝ }
+    ensures stands { λ r. ⌜ made r (λ p. Stands-for seat window (run (λ a. leb a 15) window new-log (map event-of (now (events .entry)))) (record { peer = p; inputs = now (inputs .exit) })) ⌝ }
     ensures shown { λ r. ⌜ made r (λ _. now (picture .exit) ≡ picture-of (shows court-game seat (run (λ a. leb a 15) window new-log (map event-of (now (events .entry))))) ++ drop 19200 (now (picture .entry))) ⌝ }
 {
     let mut p = begin(seat, window, inputs, states, picture)?;

@@ -32,7 +32,7 @@ returns c =
     record {
       answer = c .in-Continue-p .ensures tt .answer;
       idle = λ e. let z : _≡_ {A = ℕ} 0 1 = cc in let no : ⊥ = omega arith in absurd no;
-      log = log;
+      stands = record { seat-is = stands .seat-is ∙ begun .seat-is; window-is = stands .window-is ∙ begun .window-is; long = stands .long; log-is = log };
       shown = (simp (l, r) at (c .draw .ensures .picture))
           ∙ ap (λ s. picture-of (shows court-game s (log-of (c .happen-all .last .p) (c .happen-all .last .inputs))) ++ drop 19200 pic) (stands .seat-is ∙ begun .seat-is)
           ∙ ap (λ k. picture-of (shows court-game (c .args .seat) k) ++ drop 19200 pic) log;
