@@ -1,6 +1,8 @@
 // Numbers in slices of bytes, low byte first, read and written at a place.
 // The place has to lie in the slice: callers are proved to see to that.
 // Rests on no other crate.
+#![tactic(auto)]
+
 ghost use Rattle.std.specs.Prelude.{◌≡◌, ◌+◌, ◌≤◌, length};
 ghost use Rattle.byte_numbers.specs.Little.{little, number_of, complement, signed_of, part, overwritten};
 

@@ -5,4 +5,4 @@ use Rattle.byte_numbers.proofs.put_u16.Goals as goal
 
 pub returns : goal.returns
 returns c =
-    put_is c.args.at ((c.args.at + 2) - c.args.at) c.args.bytes.now c.copy-from-slice.new.self (little 2 c.args.v) (c.copy-from-slice.ensures.after ∙ c.to-le-bytes.ensures) (omega arith)
+    put_is c.args.at ((c.args.at + 2) - c.args.at) c.args.bytes.now c.copy_from_slice.new.self (little 2 c.args.v) (c.copy_from_slice.ensures.after ∙ c.to_le_bytes.ensures) (omega arith)

@@ -8,5 +8,5 @@ returns c =
     let v = c.args.v in
     let e2 : v / 65536 % 256 ≡ v / 256 / 256 % 256 = omega arith in
     let e3 : v / 16777216 % 256 ≡ v / 256 / 256 / 256 % 256 = omega arith in
-    let e : c.copy-from-slice.new.self ≡ little 4 v = cc in
-    put_is c.args.at ((c.args.at + 4) - c.args.at) c.args.bytes.now c.copy-from-slice.new.self (little 4 v) e (omega arith)
+    let e : c.copy_from_slice.new.self ≡ little 4 v = cc in
+    put_is c.args.at ((c.args.at + 4) - c.args.at) c.args.bytes.now c.copy_from_slice.new.self (little 4 v) e (omega arith)
