@@ -7,8 +7,8 @@ use crate::rules::Game;
 // On from a state, as many frames as both seats have inputs. A state that was come to by inputs from the start
 // goes on as if all inputs had been played from the start.
 pub fn play_on<G: Game>(from: G, left: &[u8], right: &[u8]) -> G
-    ensures value { seen result ≡ plays rules.game (seen from) left.now right.now }
-    ensures whole { (xs ys : List ℕ) → length xs ≡ length ys → seen from ≡ plays rules.game rules.game.start xs ys → seen result ≡ plays rules.game rules.game.start (xs ++ left.now) (ys ++ right.now) }
+    ensures value { G.seen result ≡ plays G.rules.game (G.seen from) left.now right.now }
+    ensures whole { (xs ys : List ℕ) → length xs ≡ length ys → G.seen from ≡ plays G.rules.game G.rules.game.start xs ys → G.seen result ≡ plays G.rules.game G.rules.game.start (xs ++ left.now) (ys ++ right.now) }
 {
     let mut state = from;
     for (a, b) in left.iter().zip(right.iter()) {
@@ -19,14 +19,14 @@ pub fn play_on<G: Game>(from: G, left: &[u8], right: &[u8]) -> G
 
 // From the start.
 pub fn play<G: Game>(left: &[u8], right: &[u8]) -> G
-    ensures { seen result ≡ plays rules.game rules.game.start left.now right.now }
+    ensures { G.seen result ≡ plays G.rules.game G.rules.game.start left.now right.now }
 {
     play_on(G::start(), left, right)
 }
 
 // On from a state, by frames of one byte: seat 0's input and 16 times seat 1's.
 pub fn play_frames<G: Game>(from: G, frames: &[u8]) -> G
-    ensures { seen result ≡ plays rules.game (seen from) (map seat_0 frames.now) (map seat_1 frames.now) }
+    ensures { G.seen result ≡ plays G.rules.game (G.seen from) (map seat_0 frames.now) (map seat_1 frames.now) }
 {
     let mut state = from;
     for frame in frames {
