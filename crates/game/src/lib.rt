@@ -5,5 +5,6 @@
 
 pub mod plain;
 pub mod rules;
+pub mod saved;
 pub mod seat;
 pub mod statements;
