@@ -1,6 +1,8 @@
 // The court: a ball, two paddles and two goals, in whole numbers. One frame from a state and both seats' inputs, by the rules,
 // each step proved equal to its definition in specs/; and the proof that ball and paddles cannot leave the court.
 // Rests on no other crate.
+#![tactic(auto)]
+
 mod ball;
 pub mod bounded;
 mod clamped;
