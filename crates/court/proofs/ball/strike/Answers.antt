@@ -19,18 +19,18 @@ returns c =
     let fdx : SFits w32 c.args.b.dx = search rules in
     let fdy : SFits w32 c.args.b.dy = search rules in
     let fd : SFits w32 (c.args.b.y -ℤ c.args.p.y) = search rules in
-    let fi : SFits w32 c.into-court.result = search rules in
+    let fi : SFits w32 c.into_court.result = search rules in
     let fq : SFits w32 c.quicken.result = search rules in
-    let fv : SFits w32 c.into-court-2.result = search rules in
+    let fv : SFits w32 c.into_court-2.result = search rules in
     let fb : SFits w32 c.bend.result = search rules in
-    let fs : SFits w32 (c.args.p.x +ℤ c.into-court.result) = search rules in
+    let fs : SFits w32 (c.args.p.x +ℤ c.into_court.result) = search rules in
     let m : meets c.args.b c.args.p ≡ true = sym c.if-not-touches.ensures in
-    let ei : c.into-court.result ≡ inward c.args.side (pos 1024) = c.into-court.ensures.value in
+    let ei : c.into_court.result ≡ inward c.args.side (pos 1024) = c.into_court.ensures.value in
     let eq : c.quicken.result ≡ quickened c.args.b.dx = simp to_z-of_z at c.quicken.ensures.value in
-    let ev : c.into-court-2.result ≡ inward c.args.side (quickened c.args.b.dx) =
-    (simp to_z-of_z at c.into-court-2.ensures.value) ∙ ap (inward c.args.side) eq in
+    let ev : c.into_court-2.result ≡ inward c.args.side (quickened c.args.b.dx) =
+    (simp to_z-of_z at c.into_court-2.ensures.value) ∙ ap (inward c.args.side) eq in
     let eb : c.bend.result ≡ bent_by c.args.b.dy (c.args.b.y -ℤ c.args.p.y) = simp to_z-of_z at c.bend.ensures in
     let mk : ℤ → ℤ → ℤ → Ball = λ i v d. record { x = c.args.p.x +ℤ i; y = c.args.b.y; dx = v; dy = d } in
-    simp (to_z-of_z, m) (ap (λ i. mk i c.into-court-2.result c.bend.result) ei
+    simp (to_z-of_z, m) (ap (λ i. mk i c.into_court-2.result c.bend.result) ei
     ∙ ap (λ v. mk (inward c.args.side (pos 1024)) v c.bend.result) ev
     ∙ ap (mk (inward c.args.side (pos 1024)) (inward c.args.side (quickened c.args.b.dx))) eb)

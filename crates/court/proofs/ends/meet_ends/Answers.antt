@@ -4,25 +4,25 @@ use lib.Signed.{lt_z}
 use Rattle.court.specs.Frame.{ends_met}
 use Rattle.court.proofs.ends.meet_ends.Goals as goal
 
-pub returns-then-past-left : goal.returns-then-past-left
+pub returns-then-past_left : goal.returns-then-past_left
 unfolding ends_met
-returns-then-past-left c =
+returns-then-past_left c =
     let fx : SFits w32 c.args.s.ball.x = search rules in
-    let t : lt_z c.args.s.ball.x (pos 512) ≡ true = simp to_z-of_z at c.if-past-left.true in
-    simp t c.meet-end.ensures
+    let t : lt_z c.args.s.ball.x (pos 512) ≡ true = simp to_z-of_z at c.if-past_left.true in
+    simp t c.meet_end.ensures
 
-pub returns-then-past-right : goal.returns-then-past-right
+pub returns-then-past_right : goal.returns-then-past_right
 unfolding ends_met
-returns-then-past-right c =
+returns-then-past_right c =
     let fx : SFits w32 c.args.s.ball.x = search rules in
-    let t : lt_z c.args.s.ball.x (pos 512) ≡ false = simp to_z-of_z at c.if-past-left.false in
-    let u : lt_z (pos 40448) c.args.s.ball.x ≡ true = simp to_z-of_z at c.if-past-right.true in
-    simp (t, u) c.meet-end-then-past-right.ensures
+    let t : lt_z c.args.s.ball.x (pos 512) ≡ false = simp to_z-of_z at c.if-past_left.false in
+    let u : lt_z (pos 40448) c.args.s.ball.x ≡ true = simp to_z-of_z at c.if-past_right.true in
+    simp (t, u) c.meet_end-then-past_right.ensures
 
-pub returns-else-past-right : goal.returns-else-past-right
+pub returns-else-past_right : goal.returns-else-past_right
 unfolding ends_met
-returns-else-past-right c =
+returns-else-past_right c =
     let fx : SFits w32 c.args.s.ball.x = search rules in
-    let t : lt_z c.args.s.ball.x (pos 512) ≡ false = simp to_z-of_z at c.if-past-left.false in
-    let u : lt_z (pos 40448) c.args.s.ball.x ≡ false = simp to_z-of_z at c.if-past-right.false in
+    let t : lt_z c.args.s.ball.x (pos 512) ≡ false = simp to_z-of_z at c.if-past_left.false in
+    let u : lt_z (pos 40448) c.args.s.ball.x ≡ false = simp to_z-of_z at c.if-past_right.false in
     simp (t, u)
