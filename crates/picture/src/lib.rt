@@ -1,6 +1,8 @@
 // Pictures: a state of the court as 120 rows of 160 bytes, drawn into lent memory row by row,
 // every byte proved to be the one that the rules give the dot.
 // Rests on court.
+#![tactic(auto)]
+
 mod areas;
 pub mod drawing;
 mod row;
