@@ -1,7 +1,7 @@
 -- A game stays in the court, and rests once it is over. Assumes nothing.
-use Rattle.std.proofs.Common.{◌≡◌, ℕ, true, List, [], ◌∷◌, refl, ap, ◌∙◌}
+use Rattle.std.proofs.Common.{ℕ, List, [], ◌∷◌, refl, ap, ◌∙◌}
 use Rattle.court.specs.declared.state.State.{State}
-use Rattle.court.specs.Frame.{advanced, over}
+use Rattle.court.specs.Frame.{advanced}
 use Rattle.court.specs.Bounds.{InCourt}
 use Rattle.court.proofs.Stays.{advanced_in, frame_rests}
 use Rattle.game.specs.Plain.{plays}

@@ -1,6 +1,8 @@
 // The court as a game that an engine can play, its states in 64 bytes, and the plain game of the court as programs
 // call it, with contracts in the court's own words.
-// Rests on bytes, court and game.
+// Rests on byte_numbers, court and game.
+#![tactic(auto)]
+
 pub mod entry;
 pub mod plain;
 pub mod snapshot;
