@@ -5,5 +5,6 @@
 
 pub mod entry;
 pub mod plain;
+pub mod saved;
 pub mod snapshot;
 pub mod statements;
