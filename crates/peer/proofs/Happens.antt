@@ -1,9 +1,9 @@
 -- What events do, case by case. Assumes nothing.
-use Rattle.std.proofs.Common.{◌≡◌, ℕ, ◌+◌, ◌<◌, ◌≤◌, Bool, true, false, cond, ◌&&◌, ltb, List, [], ◌∷◌, ◌++◌, length, Ok, Err, Result, sym, refl, ap, ◌∙◌, arith, le-ltb, lt-ltb}
+use Rattle.std.proofs.Common.{◌≡◌, ℕ, ◌+◌, ◌<◌, ◌≤◌, Bool, true, false, ◌&&◌, ltb, List, [], ◌∷◌, ◌++◌, length, Result, sym, refl, ap, ◌∙◌, arith, le-ltb, lt-ltb}
 use Rattle.packet.specs.Wire.{Message, reading}
 use Rattle.packet.specs.declared.fault.Fault.{Fault}
 use Rattle.peer.specs.declared.numbers.Peer.{Peer}
-use Rattle.peer.specs.declared.outcome.Refusal.TheVariants.{Input, Packet, Inputs}
+use Rattle.peer.specs.declared.outcome.Refusal.TheVariants.{Input, Inputs}
 use Rattle.peer.specs.declared.outcome.Outcome.TheVariants.{Taken, Lost, Refused}
 use Rattle.peer.specs.Lent.{Long, log_of, Happened}
 use Rattle.peer.specs.Peers.{Log, Event, tick, arrival, goes_on, heard, event}

@@ -1,7 +1,7 @@
 -- The log in lent memory, and what is written to it. Assumes nothing.
-use Rattle.std.proofs.Common.{◌≡◌, ℕ, ◌+◌, ◌-◌, ◌<◌, ◌≤◌, min, true, false, cond, ltb, ◌⊎◌, List, [], ◌∷◌, ◌++◌, length, take, drop, sym, refl, ap, ◌∙◌, inl, inr, arith, length-drop, length-take, le-ltb, lt-ltb}
+use Rattle.std.proofs.Common.{◌≡◌, ℕ, ◌+◌, ◌-◌, ◌<◌, ◌≤◌, min, true, false, cond, ltb, List, [], ◌++◌, length, get_or, take, drop, sym, ap, ◌∙◌, inl, inr, arith, length-drop, length-take, le-ltb, lt-ltb}
 use borrow.Rule.Slice.PartMut.{put_mid}
-use Rattle.std.proofs.lemmas.List.{take-take, take_all, drop-take, drop-append-le, drop_all, length-take-le, append-nil}
+use Rattle.std.proofs.lemmas.List.{places, take-take, take_all, drop-take, drop-append-le, drop_all, length-take-le, append-nil}
 use Rattle.std.proofs.lemmas.Slice.{take-put_mid}
 use Rattle.std.proofs.lemmas.Bool.{cases_lt}
 use Rattle.packet.specs.Wire.{Message}
@@ -19,6 +19,14 @@ own_long p inputs h = let few = p.few.0 in length-take-le p.own inputs (omega ar
 pub other_long : (p : Peer) (inputs : List ℕ) → Long inputs → length (log_of p inputs).other ≡ p.other
 unfolding log_of
 other_long p inputs h = let few = p.few.1 in length-take-le p.other (drop 1000000 inputs) (simp length-drop (omega arith))
+
+-- bytes that are not written to stay
+pub get_or_put_mid_other : (a k : ℕ) (xs ys : List ℕ) (i : ℕ) → length ys ≡ k → a + k ≤ length xs → ((a ≤ i) × (i < a + k) → ⊥) → get_or (put_mid a k xs ys) i 0 ≡ get_or xs i 0
+get_or_put_mid_other a k xs ys i n h out =
+    elim (cases_lt i a) [
+      | inl lt ↦ grind (arith, places)
+      | inr ge ↦ elim (cases_lt i (a + k)) [ inl lt ↦ absurd (out (ge, lt)) | inr far ↦ grind (arith, places) ]
+    ]
 
 -- inputs of the other written behind those that came
 pub other_put : (m b k : ℕ) (xs ys : List ℕ) → m + b ≤ length xs → take (b + length ys) (drop m (put_mid (m + b) k xs ys)) ≡ take b (drop m xs) ++ ys

@@ -1,5 +1,5 @@
 -- Rows of events. Assumes nothing.
-use Rattle.std.proofs.Common.{◌≡◌, ℕ, Bool, List, [], ◌∷◌, length, sym, refl, ap, ◌∙◌, subst, arith}
+use Rattle.std.proofs.Common.{ℕ, Bool, List, [], ◌∷◌, ap, ◌∙◌, subst, arith}
 use Rattle.game.specs.declared.seat.Seat.{Seat}
 use Rattle.peer.specs.Lent.{Long, Happened, log_of}
 use Rattle.peer.specs.Peers.{Log, Event, event, run}

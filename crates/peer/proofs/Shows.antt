@@ -1,5 +1,5 @@
 -- What a peer shows, by inputs as functions of the frame. Assumes nothing.
-use Rattle.std.proofs.Common.{◌≡◌, ℕ, zero, suc, ◌+◌, ◌-◌, ◌<◌, ◌≤◌, true, false, cond, ◌⊎◌, List, [], ◌∷◌, ◌++◌, length, get_or, take, drop, sym, refl, ap, ◌∙◌, inl, inr, add-one, arith, length-drop, le-ltb, lt-ltb}
+use Rattle.std.proofs.Common.{◌≡◌, ℕ, zero, suc, ◌+◌, ◌-◌, ◌<◌, ◌≤◌, List, [], ◌∷◌, ◌++◌, length, get_or, take, drop, sym, refl, ap, ◌∙◌, inl, inr, add-one, arith, length-drop, le-ltb, lt-ltb}
 use Rattle.std.proofs.lemmas.List.{nil_from_length, get_or-take, get_or-drop, take_all, take_more, length-take-le}
 use Rattle.std.proofs.lemmas.Bool.{cases_lt}
 use Rattle.game.specs.Plain.{Game, plays}
@@ -9,7 +9,7 @@ use Rattle.game.proofs.Plays.{plays_append}
 use Rattle.peer.specs.declared.numbers.Peer.{Peer}
 use Rattle.peer.specs.Lent.{Long, log_of, seated, state_at, own_at, other_at, after}
 use Rattle.peer.specs.Peers.{Log, filled, predicted, shows}
-use Rattle.peer.proofs.Logs.{own_long, other_long}
+use Rattle.peer.proofs.Logs.{own_long}
 
 -- ---- states by inputs
 
@@ -97,24 +97,43 @@ filled_is inputs a b i l h =
           ]
     ]
 
+own_input : (p : Peer) (inputs : List ℕ) (i : ℕ) → i < p.own → get_or (log_of p inputs).own i 0 ≡ get_or inputs i 0
+unfolding log_of
+own_input p inputs i h = get_or-take p.own inputs i 0 h
+
+-- what a peer has of the other's inputs and predicts, frame by frame
+pub predicted_long : (p : Peer) (inputs : List ℕ) → Long inputs → length (predicted (log_of p inputs)) ≡ p.own
+predicted_long p inputs l = length_filled (length (log_of p inputs).own) 0 (log_of p inputs).other ∙ own_long p inputs l
+
+pub predicted_at : (p : Peer) (inputs : List ℕ) (i : ℕ) → Long inputs → i < p.own → get_or (predicted (log_of p inputs)) i 0 ≡ other_at p.other inputs i
+unfolding log_of
+predicted_at p inputs i l h =
+    let few = p.few in
+    filled_is inputs (length (take p.own inputs)) p.other i (omega arith) (let n : length (take p.own inputs) ≡ p.own = own_long p inputs l in omega arith)
+
 -- ---- what is shown
+
+-- the state after k frames is the plain game with the first k inputs
+pub after_plays : {S : Type 0} (g : Game S) (p : Peer) (inputs : List ℕ) (k : ℕ) → Long inputs → k ≤ p.own → after g inputs p.other k ≡ plays g g.start (take k (log_of p inputs).own) (take k (predicted (log_of p inputs)))
+unfolding own_at
+after_plays g p inputs k l h =
+    let own : List ℕ = (log_of p inputs).own in
+    let fill : List ℕ = predicted (log_of p inputs) in
+    let n = own_long p inputs l in
+    let m = predicted_long p inputs l in
+    sym
+    (plays_at g own fill k (omega arith) (omega arith)
+    ∙ state_same g (λ i. get_or own i 0) (λ i. get_or inputs i 0) (λ i. get_or fill i 0) (other_at p.other inputs) k (λ i lt. own_input p inputs i (omega arith)) (λ i lt. predicted_at p inputs i l (omega arith)))
 
 -- from seat 0
 left_is : {S : Type 0} (g : Game S) (p : Peer) (inputs : List ℕ) → Long inputs → after g inputs p.other p.own ≡ shows g Left (log_of p inputs)
-unfolding log_of shows own_at
+unfolding shows
 left_is g p inputs l =
-    let a = p.own in
-    let b = p.other in
-    let few = p.few in
-    let own : List ℕ = take a inputs in
-    let fill : List ℕ = filled (length own) 0 (take b (drop 1000000 inputs)) in
-    let la : length own ≡ a = length-take-le a inputs (omega arith) in
-    let lf : length fill ≡ length own = length_filled (length own) 0 (take b (drop 1000000 inputs)) in
-    sym
-    (ap (λ zs. plays g g.start zs fill) (sym (take_all a own (omega arith)))
-    ∙ ap (plays g g.start (take a own)) (sym (take_all a fill (omega arith)))
-    ∙ plays_at g own fill a (omega arith) (omega arith)
-    ∙ state_same g (λ i. get_or own i 0) (λ i. get_or inputs i 0) (λ i. get_or fill i 0) (other_at b inputs) a (λ i lt. get_or-take a inputs i 0 lt) (λ i lt. filled_is inputs (length own) b i (omega arith) (omega arith)))
+    let n = own_long p inputs l in
+    let m = predicted_long p inputs l in
+    after_plays g p inputs p.own l (omega arith)
+    ∙ ap (λ zs. plays g g.start zs (take p.own (predicted (log_of p inputs)))) (take_all p.own (log_of p inputs).own (omega arith))
+    ∙ ap (plays g g.start (log_of p inputs).own) (take_all p.own (predicted (log_of p inputs)) (omega arith))
 
 -- seat 1 has the same game with the inputs exchanged
 plays_seated : {S : Type 0} (g : Game S) (s : S) (xs ys : List ℕ) → plays (seated Right g) s xs ys ≡ plays g s ys xs
@@ -124,7 +143,7 @@ plays_seated g s [] (y ∷ ys) = refl
 plays_seated g s (x ∷ xs) [] = refl
 plays_seated g s (x ∷ xs) (y ∷ ys) = plays_seated g (g.frame s y x) xs ys
 
-shows_seated : {S : Type 0} (seat : Seat) (g : Game S) (log : Log) → shows (seated seat g) Left log ≡ shows g seat log
+pub shows_seated : {S : Type 0} (seat : Seat) (g : Game S) (log : Log) → shows (seated seat g) Left log ≡ shows g seat log
 unfolding shows
 shows_seated Left g log = refl
 shows_seated Right g log = plays_seated g g.start log.own (predicted log)

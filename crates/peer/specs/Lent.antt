@@ -1,5 +1,5 @@
 -- Peers in lent memory. Assumes nothing: these are definitions.
-use Rattle.std.specs.Prelude.{◌≡◌, ℕ, zero, suc, ◌+◌, ◌-◌, ◌≤◌, Bool, cond, List, length, take, drop, nat_lt, slice_index}
+use Rattle.std.specs.Prelude.{◌≡◌, ℕ, zero, suc, ◌+◌, ◌-◌, ◌<◌, ◌≤◌, Bool, cond, List, [], ◌∷◌, ◌++◌, length, take, drop, nat_lt, slice_index}
 use Rattle.game.specs.Plain.{Game}
 use Rattle.game.specs.declared.seat.Seat.{Seat}
 use Rattle.game.specs.declared.seat.Seat.TheVariants.{Left, Right}
@@ -10,9 +10,19 @@ use Rattle.peer.specs.Peers.{Log, Event, event, new_log}
 unfoldable pub log_of : Peer → List ℕ → Log
 log_of p inputs = record { own = take p.own inputs; other = take p.other (drop 1000000 inputs); acked = p.acked }
 
+-- a log with one own input more
+abbrev pub with_own : Log → ℕ → Log
+with_own log a = record { own = log.own ++ a ∷ []; other = log.other; acked = log.acked }
+
 -- the memory is long enough
 abbrev pub Long : List ℕ → Type 0
 Long inputs = 2000000 ≤ length inputs
+
+-- no byte of the memory changes but those of inputs that are new
+abbrev pub Untouched : Peer → List ℕ → Peer → List ℕ → Type 0
+Untouched p inputs q inputs' =
+    (i : ℕ) → ((p.own ≤ i) × (i < q.own) → ⊥) → ((1000000 + p.other ≤ i) × (i < 1000000 + q.other) → ⊥) →
+    slice_index inputs' i ≡ slice_index inputs i
 
 -- a peer that has just begun
 pub record Begun (seat : Seat) (window : ℕ) (p : Peer) (inputs : List ℕ) : Type 0 where

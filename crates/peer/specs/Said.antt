@@ -1,5 +1,5 @@
 -- What events come to, by number and place where they are refused. Assumes nothing: these are definitions.
-use Rattle.std.specs.Prelude.{ℕ, ◌+◌, ◌*◌, Bool, cond, not, ◌||◌, List, length, Ok, Err, Result, nat_lt}
+use Rattle.std.specs.Prelude.{ℕ, ◌+◌, ◌*◌, Bool, cond, ◌||◌, List, length, Ok, Err, Result, nat_lt}
 use Rattle.packet.specs.Wire.{Message, reading, fault_number, fault_place}
 use Rattle.packet.specs.declared.fault.Fault.{Fault}
 use Rattle.peer.specs.declared.outcome.Refusal.{Refusal}

@@ -58,8 +58,8 @@ fn may_play(p: &Peer) -> bool
 
 // A frame's time, with the input at the peer's own seat.
 pub fn tick<G: Game>(p: &mut Peer, inputs: &mut [u8], input: u8) -> Outcome
-    ensures answer { result ≡ said_tick rules.fits p.old.window (length inputs.old) (log_of p.old inputs.old) input }
-    ensures happens { Happened rules.fits p.old inputs.old (ticked input) p.new inputs.new }
+    ensures answer { result ≡ said_tick G.rules.fits p.old.window (length inputs.old) (log_of p.old inputs.old) input }
+    ensures happens { Happened G.rules.fits p.old inputs.old (ticked input) p.new inputs.new }
     ensures idle { (result ≢ Taken) → (p.new ≡ p.old) × (inputs.new ≡ inputs.old) }
 {
     let short = inputs.len() < 2 * HALF;

@@ -1,16 +1,18 @@
 // The input log over lent memory: own inputs, and from the middle on the other's.
-ghost use Rattle.std.specs.Prelude.{◌≡◌, ◌+◌, ◌-◌, ◌<◌, ◌≤◌, max, [], ◌∷◌, ◌++◌, length, drop, if◌then◌else◌, nat_lt};
+// What is required here, callers of this repository are proved to see to.
+ghost use Rattle.std.specs.Prelude.{◌≡◌, ◌+◌, ◌-◌, ◌<◌, ◌≤◌, [], length, drop, if◌then◌else◌, Ok, nat_lt};
 ghost use Rattle.packet.specs.Wire.{Proper, message_of};
-ghost use Rattle.peer.specs.Lent.{Long, log_of, other_at};
-ghost use Rattle.peer.specs.Peers.{joined};
+ghost use Rattle.peer.specs.Lent.{Long, Untouched, log_of, with_own, other_at};
+ghost use Rattle.peer.specs.Peers.{heard};
 
 use crate::numbers::Peer;
 use packet::Packet;
 
-pub(crate) const HALF: usize = 1_000_000;
+// As many inputs as a seat has at most, and where the other's begin.
+pub const HALF: usize = 1_000_000;
 
 // The other's input at a frame, of which so many came: what came, else the last that came, or 0.
-pub(crate) fn other_input(inputs: &[u8], came: usize, frame: usize) -> u8
+pub fn other_input(inputs: &[u8], came: usize, frame: usize) -> u8
     requires { (Long inputs.now) × ((came ≤ 1000000) × (frame < 1000000)) }
     ensures { result ≡ other_at came inputs.now frame }
 {
@@ -25,14 +27,17 @@ pub(crate) fn other_input(inputs: &[u8], came: usize, frame: usize) -> u8
     }
 }
 
-// One input more of its own.
-pub(crate) fn push_own(p: &mut Peer, inputs: &mut [u8], input: u8)
+// One input more of its own. No other byte changes.
+pub fn push_own(p: &mut Peer, inputs: &mut [u8], input: u8)
     requires long { Long inputs.old }
     requires few { p.old.own < 1000000 }
     requires near { p.old.own < p.old.other + p.old.window }
     ensures window { p.new.window ≡ p.old.window }
     ensures seat { p.new.seat ≡ p.old.seat }
-    ensures log { log_of p.new inputs.new ≡ record { own = (log_of p.old inputs.old).own ++ input ∷ []; other = (log_of p.old inputs.old).other; acked = (log_of p.old inputs.old).acked } }
+    ensures own { p.new.own ≡ p.old.own + 1 }
+    ensures other { p.new.other ≡ p.old.other }
+    ensures log { log_of p.new inputs.new ≡ with_own (log_of p.old inputs.old) input }
+    ensures untouched { Untouched p.old inputs.old p.new inputs.new }
 {
     let at = p.own;
     inputs[at] = input;
@@ -40,7 +45,7 @@ pub(crate) fn push_own(p: &mut Peer, inputs: &mut [u8], input: u8)
 }
 
 // The part of a packet's inputs that is new to a peer which has so many, if it joins on.
-fn fresh(came: usize, first: usize, inputs: &[u8]) -> &[u8]
+pub fn fresh(came: usize, first: usize, inputs: &[u8]) -> &[u8]
     requires { (came ≤ 1000000) × (first + length inputs.now ≤ 1000000) }
     ensures value { result.now ≡ (if nat_lt came first then [] else drop (came - first) inputs.now) }
     ensures fits { came + length result.now ≤ 1000000 }
@@ -55,12 +60,16 @@ fn fresh(came: usize, first: usize, inputs: &[u8]) -> &[u8]
 }
 
 // Takes in a packet's inputs and its acknowledgement. Of inputs that came before, the first that came count.
-pub(crate) fn join(p: &mut Peer, inputs: &mut [u8], packet: Packet)
+// No byte changes but those of new inputs.
+pub fn join(p: &mut Peer, inputs: &mut [u8], packet: Packet)
     requires long { Long inputs.old }
     requires proper { Proper p.old.own (message_of packet) }
     ensures window { p.new.window ≡ p.old.window }
     ensures seat { p.new.seat ≡ p.old.seat }
-    ensures log { log_of p.new inputs.new ≡ record { own = (log_of p.old inputs.old).own; other = joined (log_of p.old inputs.old).other (message_of packet.entry); acked = max (log_of p.old inputs.old).acked packet.entry.ack } }
+    ensures own { p.new.own ≡ p.old.own }
+    ensures more { p.old.other ≤ p.new.other }
+    ensures log { log_of p.new inputs.new ≡ heard (log_of p.old inputs.old) (Ok (message_of packet.entry)) }
+    ensures untouched { Untouched p.old inputs.old p.new inputs.new }
 {
     let new = fresh(p.other, packet.first as usize, packet.inputs);
     let at = HALF + p.other;

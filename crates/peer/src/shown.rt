@@ -12,7 +12,7 @@ use game::seat::Seat;
 
 // One frame, seen from a seat.
 fn frame<G: Game>(state: G, seat: Seat, own: u8, other: u8) -> G
-    ensures { seen result ≡ (seated seat rules.game).frame (seen state) own other }
+    ensures { G.seen result ≡ (seated seat G.rules.game).frame (G.seen state) own other }
 {
     match seat {
         Seat::Left => state.advance(own, other),
@@ -21,7 +21,7 @@ fn frame<G: Game>(state: G, seat: Seat, own: u8, other: u8) -> G
 }
 
 pub fn shown<G: Game>(p: &Peer, inputs: &[u8]) -> Result<G, Refusal>
-    ensures { MatchResult result (λ s. Long inputs.now × (seen s ≡ shows rules.game p.now.seat (log_of p.now inputs.now))) (λ f. (f ≡ Inputs) × (length inputs.now < 2000000)) }
+    ensures { MatchResult result (λ s. Long inputs.now × (G.seen s ≡ shows G.rules.game p.now.seat (log_of p.now inputs.now))) (λ f. (f ≡ Inputs) × (length inputs.now < 2000000)) }
 {
     let short = inputs.len() < 2 * HALF;
     if short {

@@ -1,4 +1,4 @@
-use Rattle.std.proofs.Common.{◌≡◌, ℕ, Bool, true, length, Ok, Err, sym, refl, ◌∙◌, rules}
+use Rattle.std.proofs.Common.{ℕ, Bool, true, length, Ok, Err, sym, refl, ◌∙◌, rules}
 use Rattle.packet.specs.Wire.{message_of}
 use Rattle.peer.specs.Lent.{log_of}
 use Rattle.peer.specs.Peers.{arrival}

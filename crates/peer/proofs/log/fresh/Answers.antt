@@ -1,4 +1,4 @@
-use Rattle.std.proofs.Common.{◌≡◌, ℕ, ◌-◌, true, false, ltb, List, [], length, take, drop, ap, ◌∙◌, arith, length-drop, length-take, le-ltb, lt-ltb}
+use Rattle.std.proofs.Common.{◌≡◌, ◌-◌, true, false, ltb, [], length, take, drop, ap, ◌∙◌, arith, length-drop, length-take, le-ltb, lt-ltb}
 use Rattle.std.proofs.lemmas.List.{take_rest, drop_all}
 use Rattle.peer.proofs.Logs.{drop_most}
 use Rattle.peer.proofs.log.fresh.Goals as goal

@@ -1,4 +1,4 @@
-use Rattle.std.proofs.Common.{◌≡◌, ℕ, List, sym, ap, ◌∙◌, arith}
+use Rattle.std.proofs.Common.{ℕ, List, sym, ap, ◌∙◌, arith}
 use Rattle.packet.specs.Wire.{Message}
 use Rattle.peer.specs.Lent.{log_of}
 use Rattle.peer.proofs.Logs.{other_long, part_sent}

@@ -1,6 +1,5 @@
 use Rattle.std.proofs.Common.{◌≡◌, sym, ap, ◌∙◌, arith}
-use Rattle.game.specs.Plain.{Game}
-use Rattle.peer.specs.Lent.{seated, own_at, other_at, after}
+use Rattle.peer.specs.Lent.{seated, own_at, after}
 use Rattle.peer.proofs.Shows.{after_none, after_more, shown_is}
 use Rattle.peer.proofs.shown.shown.Goals as goal
 
@@ -15,8 +14,8 @@ loop-k-preserved g c =
     let k = c.loop-k.k in
     let game = seated p.seat g.G.Game.rules.game in
     c.frame-state.ensures
-    ∙ ap (λ s. game.frame s (own_at xs k) c.other-input.result) c.loop-k.invariant
-    ∙ ap (game.frame (after game xs p.other k) (own_at xs k)) c.other-input.ensures
+    ∙ ap (λ s. game.frame s (own_at xs k) c.other_input.result) c.loop-k.invariant
+    ∙ ap (game.frame (after game xs p.other k) (own_at xs k)) c.other_input.ensures
     ∙ sym (after_more game xs p.other k)
 
 pub returns : goal.returns
