@@ -1,7 +1,7 @@
 -- The court as a game, what is promised of it, and games as they come out. Assumes nothing: these are definitions,
 -- and statements that are proved in proofs/.
 use Rattle.std.specs.Prelude.{◌≡◌, ℕ, true, List, [], ◌∷◌, ◌++◌, replicate, pos, neg_ℤ, nat_le}
-use Rattle.std.specs.List.{AllByRecursion as All}
+use Rattle.std.specs.List.{AllByRecursion}
 use Rattle.court.specs.declared.state.Ball.{Ball}
 use Rattle.court.specs.declared.state.Paddle.{Paddle}
 use Rattle.court.specs.declared.state.State.{State}
@@ -74,4 +74,4 @@ games_played =
     ∷ []
 
 abbrev pub GamesComeOut : Type 0
-GamesComeOut = All (λ g. plays court_game start g.left g.right ≡ g.after) games_played
+GamesComeOut = AllByRecursion (λ g. plays court_game start g.left g.right ≡ g.after) games_played
