@@ -3,7 +3,7 @@ use Rattle.std.proofs.Common.{◌≡◌, ℕ, ◌+◌, ◌-◌, ◌*◌, ◌<◌
 use Rattle.std.specs.List.{between}
 use Rattle.std.proofs.lemmas.Slice.{between-put_mid, between_is, take-put_mid_below, drop-put_mid}
 use Rattle.std.proofs.lemmas.Bool.{cases_order}
-use Rattle.peer.proofs.Logs.{getD_putMid_other}
+use Rattle.peer.proofs.Logs.{get_or_put_mid_other}
 use Rattle.rollback.specs.Saved.{slot, with_slot, Behind}
 
 slot_is : (xs : List ℕ) (i : ℕ) → slot xs i ≡ between (i * 64) (i * 64 + 64) xs
@@ -38,4 +38,4 @@ slot_other xs bs i j h l ne =
 -- and so is what lies behind the slots
 pub slot_behind : (xs bs : List ℕ) (i n : ℕ) → i < n → n * 64 ≤ length xs → length bs ≡ 64 → Behind n xs (with_slot xs i bs)
 unfolding with_slot
-slot_behind xs bs i n h l m k far = getD_putMid_other (i * 64) 64 xs bs k m (omega arith) (λ out. omega (arith, out.1))
+slot_behind xs bs i n h l m k far = get_or_put_mid_other (i * 64) 64 xs bs k m (omega arith) (λ out. omega (arith, out.1))

@@ -1,3 +1,4 @@
+pub mod Happens
 pub mod Bytes
 pub mod Seats
 pub mod Windows

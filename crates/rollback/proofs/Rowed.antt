@@ -1,6 +1,7 @@
 -- Rows of events. Assumes nothing.
 use Rattle.std.proofs.Common.{◌≡◌, ℕ, ◌+◌, ◌%◌, ◌≤◌, List, [], ◌∷◌, length, drop, sym, ap, ◌∙◌, subst, arith}
-use Rattle.game.specs.Plain.{Rules, Lawful, Game, plays}
+use Rattle.game.specs.Plain.{Game, plays}
+use Rattle.game.specs.Saved.{SavedRules, Lawful}
 use Rattle.game.specs.declared.seat.Seat.{Seat}
 use Rattle.game.specs.declared.seat.Seat.TheVariants.{Left}
 use Rattle.game.proofs.Plays.{from_saved}
@@ -14,11 +15,11 @@ use Rattle.rollback.specs.Saved.{Roomy, Saved, Begun, Happened, Shown, slot}
 use Rattle.rollback.proofs.Windows.{after_ok}
 
 -- the beginning
-pub stands_begun : {S : Type 0} (r : Rules S) (seat : Seat) (window : ℕ) (m : Memory) → Begun r seat window m.peer m.inputs m.states → StandsFor r seat window new_log m
+pub stands_begun : {S : Type 0} (r : SavedRules S) (seat : Seat) (window : ℕ) (m : Memory) → Begun r seat window m.peer m.inputs m.states → StandsFor r seat window new_log m
 stands_begun r seat window m b = record { seat_is = b.seat_is; window_is = b.window_is; roomy = b.roomy; log_is = b.log_is; kept = b.kept }
 
 -- one event more
-pub stands_more : {S : Type 0} (r : Rules S) (seat : Seat) (window : ℕ) (log : Log) (m n : Memory) (e : Event) → StandsFor r seat window log m → Happened r m.peer m.inputs m.states e n.peer n.inputs n.states → StandsFor r seat window (event r.fits window log e) n
+pub stands_more : {S : Type 0} (r : SavedRules S) (seat : Seat) (window : ℕ) (log : Log) (m n : Memory) (e : Event) → StandsFor r seat window log m → Happened r m.peer m.inputs m.states e n.peer n.inputs n.states → StandsFor r seat window (event r.fits window log e) n
 stands_more r seat window log m n e s h =
     let room : Roomy m.peer.window m.inputs m.states = subst (λ w. Roomy w m.inputs m.states) (sym s.window_is) s.roomy in
     record {
@@ -30,22 +31,22 @@ stands_more r seat window log m n e s h =
     }
 
 -- a row of events
-pub stands_all : {S : Type 0} (r : Rules S) (seat : Seat) (window : ℕ) (log : Log) (m n : Memory) (es : List Event) → StandsFor r seat window log m → Goes r m es n → StandsFor r seat window (run r.fits window log es) n
+pub stands_all : {S : Type 0} (r : SavedRules S) (seat : Seat) (window : ℕ) (log : Log) (m n : Memory) (es : List Event) → StandsFor r seat window log m → Goes r m es n → StandsFor r seat window (run r.fits window log es) n
 unfolding Goes run
 stands_all r seat window log m n [] s g = subst (StandsFor r seat window log) g s
 stands_all r seat window log m n (e ∷ es) s (k, h, g) = stands_all r seat window (event r.fits window log e) k n es (stands_more r seat window log m k e s h) g
 
-pub keeps_log : {S : Type 0} (r : Rules S) → KeepsLog r
+pub keeps_log : {S : Type 0} (r : SavedRules S) → KeepsLog r
 keeps_log r seat window m n es b g = stands_all r seat window new_log m n es (stands_begun r seat window m b) g
 
 -- what is shown of memory that stands for a log
-pub stands_shown : {S : Type 0} (r : Rules S) (seat : Seat) (window : ℕ) (log : Log) (m : Memory) (s : S) → StandsFor r seat window log m → Shown r m.peer m.states s → s ≡ shows r.game seat log
+pub stands_shown : {S : Type 0} (r : SavedRules S) (seat : Seat) (window : ℕ) (log : Log) (m : Memory) (s : S) → StandsFor r seat window log m → Shown r m.peer m.states s → s ≡ shows r.game seat log
 stands_shown r seat window log m s st h =
     h m.inputs st.roomy.inputs_long st.kept
     ∙ ap (λ t. shows r.game t (log_of m.peer m.inputs)) st.seat_is
     ∙ ap (shows r.game seat) st.log_is
 
-pub same_shown : {S : Type 0} (r : Rules S) → SameShown r
+pub same_shown : {S : Type 0} (r : SavedRules S) → SameShown r
 same_shown r seat window m n es s b g h = stands_shown r seat window (run r.fits window new_log es) n s (keeps_log r seat window m n es b g) h
 
 -- playing on from the state after k frames
@@ -56,7 +57,7 @@ on_from {S = S} g p inputs k l h =
     let fill : List ℕ = predicted (log_of p inputs) in
     ap (λ s. plays g s (drop k own) (drop k fill)) (after_plays g p inputs k l h) ∙ from_saved S g g.start k own fill
 
-pub plays_on : {S : Type 0} (r : Rules S) → Lawful r → PlaysOn r
+pub plays_on : {S : Type 0} (r : SavedRules S) → Lawful r → PlaysOn r
 unfolding Saved
 plays_on r law seat window log m st k lo hi =
     let p = m.peer in

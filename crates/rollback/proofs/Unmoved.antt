@@ -1,15 +1,15 @@
 -- Events that change nothing, and what they come to. Assumes nothing.
 use Rattle.std.proofs.Common.{◌≡◌, ℕ, List, sym, refl, arith}
-use Rattle.game.specs.Plain.{Rules}
+use Rattle.game.specs.Saved.{SavedRules}
 use Rattle.peer.specs.declared.numbers.Peer.{Peer}
 use Rattle.peer.specs.declared.outcome.Refusal.{Refusal}
-use Rattle.peer.specs.declared.outcome.Outcome.TheVariants.{Taken, Lost, Refused}
+use Rattle.rollback.specs.declared.outcome.Outcome.TheVariants.{Taken, Lost, Refused}
 use Rattle.peer.specs.Lent.{log_of}
 use Rattle.peer.specs.Peers.{Event, event}
 use Rattle.rollback.specs.Saved.{Roomy, Happened}
 
 -- where an event leaves the log, leaving all is right
-pub unmoved : {S : Type 0} (r : Rules S) (p : Peer) (inputs states : List ℕ) (e : Event) → (Roomy p.window inputs states → event r.fits p.window (log_of p inputs) e ≡ log_of p inputs) → Happened r p inputs states e p inputs states
+pub unmoved : {S : Type 0} (r : SavedRules S) (p : Peer) (inputs states : List ℕ) (e : Event) → (Roomy p.window inputs states → event r.fits p.window (log_of p inputs) e ≡ log_of p inputs) → Happened r p inputs states e p inputs states
 unmoved r p inputs states e same =
     record {
       window_same = refl;

@@ -2,7 +2,7 @@
 use Rattle.std.proofs.Common.{◌≡◌, ℕ, zero, suc, ◌+◌, ◌*◌, ◌/◌, ◌%◌, ◌<◌, ◌≤◌, List, length, sym, ap, ◌∙◌, subst, inl, inr, mul-le-mul_right, mod-lt, add-mul, one-mul, arith}
 use native.Mathlib.Nat.{mod-add-div'}
 use Rattle.std.proofs.lemmas.Bool.{cases_lt}
-use Rattle.game.specs.Plain.{Rules, Lawful}
+use Rattle.game.specs.Saved.{SavedRules, Lawful}
 use Rattle.game.specs.declared.seat.Seat.{Seat}
 use Rattle.game.specs.declared.seat.Seat.TheVariants.{Left, Right}
 use Rattle.peer.specs.Lent.{seated, state_at, after}
@@ -24,7 +24,7 @@ pub slot_within : (k n size : ℕ) → (n + 1) * 64 ≤ size → k % (n + 1) * 6
 slot_within k n size h = let lt : k % (n + 1) < n + 1 = mod-lt k (omega arith) in omega arith
 
 -- every state on the way is one that a game can come to
-pub after_ok : {S : Type 0} (r : Rules S) → Lawful r → (seat : Seat) (inputs : List ℕ) (came k : ℕ) → r.ok (after (seated seat r.game) inputs came k)
+pub after_ok : {S : Type 0} (r : SavedRules S) → Lawful r → (seat : Seat) (inputs : List ℕ) (came k : ℕ) → r.ok (after (seated seat r.game) inputs came k)
 unfolding state_at
 after_ok r law Left inputs came zero = law.begins
 after_ok r law Left inputs came (suc k) = law.goes_on _ _ _ (after_ok r law Left inputs came k)
@@ -32,7 +32,7 @@ after_ok r law Right inputs came zero = law.begins
 after_ok r law Right inputs came (suc k) = law.goes_on _ _ _ (after_ok r law Right inputs came k)
 
 -- one state is saved
-pub saved_one : {S : Type 0} (r : Rules S) (seat : Seat) (window : ℕ) (inputs : List ℕ) (came : ℕ) (states : List ℕ) (k : ℕ) → slot states (k % (window + 1)) ≡ r.coded (after (seated seat r.game) inputs came k) → Saved r seat window inputs came states k k
+pub saved_one : {S : Type 0} (r : SavedRules S) (seat : Seat) (window : ℕ) (inputs : List ℕ) (came : ℕ) (states : List ℕ) (k : ℕ) → slot states (k % (window + 1)) ≡ r.coded (after (seated seat r.game) inputs came k) → Saved r seat window inputs came states k k
 unfolding Saved
 saved_one r seat window inputs came states k e j l u =
     let same : k ≡ j = omega arith in
@@ -40,7 +40,7 @@ saved_one r seat window inputs came states k e j l u =
     subst P same e
 
 -- and one more, in its slot alone, so that none of the window's is lost
-pub saved_more : {S : Type 0} (r : Rules S) → Lawful r → (seat : Seat) (window : ℕ) (inputs : List ℕ) (came : ℕ) (states : List ℕ) (lo hi : ℕ) (s : S) → hi + 1 ≤ lo + window → (window + 1) * 64 ≤ length states → s ≡ after (seated seat r.game) inputs came (hi + 1) → Saved r seat window inputs came states lo hi → Saved r seat window inputs came (with_slot states ((hi + 1) % (window + 1)) (r.coded s)) lo (hi + 1)
+pub saved_more : {S : Type 0} (r : SavedRules S) → Lawful r → (seat : Seat) (window : ℕ) (inputs : List ℕ) (came : ℕ) (states : List ℕ) (lo hi : ℕ) (s : S) → hi + 1 ≤ lo + window → (window + 1) * 64 ≤ length states → s ≡ after (seated seat r.game) inputs came (hi + 1) → Saved r seat window inputs came states lo hi → Saved r seat window inputs came (with_slot states ((hi + 1) % (window + 1)) (r.coded s)) lo (hi + 1)
 unfolding Saved
 saved_more r law seat window inputs came states lo hi s near room e old k l u =
     let at : ℕ = (hi + 1) % (window + 1) in
@@ -55,7 +55,7 @@ saved_more r law seat window inputs came states lo hi s near room e old k l u =
     ]
 
 -- fewer are saved too, also for other inputs that give the same states
-pub saved_as : {S : Type 0} (r : Rules S) (seat seat' : Seat) (window window' : ℕ) (xs ys : List ℕ) (came came' : ℕ) (states : List ℕ) (lo lo' hi hi' : ℕ) → seat' ≡ seat → window' ≡ window → lo ≤ lo' → hi' ≤ hi → ((k : ℕ) → k ≤ hi' → after (seated seat r.game) xs came k ≡ after (seated seat r.game) ys came' k) → Saved r seat window xs came states lo hi → Saved r seat' window' ys came' states lo' hi'
+pub saved_as : {S : Type 0} (r : SavedRules S) (seat seat' : Seat) (window window' : ℕ) (xs ys : List ℕ) (came came' : ℕ) (states : List ℕ) (lo lo' hi hi' : ℕ) → seat' ≡ seat → window' ≡ window → lo ≤ lo' → hi' ≤ hi → ((k : ℕ) → k ≤ hi' → after (seated seat r.game) xs came k ≡ after (seated seat r.game) ys came' k) → Saved r seat window xs came states lo hi → Saved r seat' window' ys came' states lo' hi'
 unfolding Saved
 saved_as r seat seat' window window' xs ys came came' states lo lo' hi hi' e f p q same old k l u =
     ap (λ n. slot states (k % (n + 1))) f

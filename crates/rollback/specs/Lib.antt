@@ -1,2 +1,3 @@
+pub mod Said
 pub mod Saved
 pub mod Rows

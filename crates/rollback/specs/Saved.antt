@@ -1,6 +1,6 @@
 -- A peer that saves states in lent memory. Assumes nothing: these are definitions.
 use Rattle.std.specs.Prelude.{◌≡◌, ℕ, ◌+◌, ◌*◌, ◌%◌, ◌≤◌, min, List, ◌++◌, length, take, drop, slice_index}
-use Rattle.game.specs.Plain.{Rules}
+use Rattle.game.specs.Saved.{SavedRules}
 use Rattle.game.specs.declared.seat.Seat.{Seat}
 use Rattle.game.specs.declared.seat.Seat.TheVariants.{Left, Right}
 use Rattle.peer.specs.declared.numbers.Peer.{Peer}
@@ -34,18 +34,18 @@ by_seat Left own other = (own, other)
 by_seat Right own other = (other, own)
 
 -- the state after k frames lies in slot k mod (window + 1), for each k from lo to hi; so many of the other's inputs came
-unfoldable pub Saved : {S : Type 0} → Rules S → Seat → ℕ → List ℕ → ℕ → List ℕ → ℕ → ℕ → Type 0
+unfoldable pub Saved : {S : Type 0} → SavedRules S → Seat → ℕ → List ℕ → ℕ → List ℕ → ℕ → ℕ → Type 0
 Saved r seat window inputs came states lo hi =
     (k : ℕ) → lo ≤ k → k ≤ hi → slot states (k % (window + 1)) ≡ r.coded (after (seated seat r.game) inputs came k)
 
 -- what a peer has saved: the states after its confirmed frames, after its last, and after each between
-abbrev pub Kept : {S : Type 0} → Rules S → Peer → List ℕ → List ℕ → Type 0
+abbrev pub Kept : {S : Type 0} → SavedRules S → Peer → List ℕ → List ℕ → Type 0
 Kept r p inputs states = Saved r p.seat p.window inputs p.other states (min p.own p.other) p.own
 
 -- ---- what calls do
 
 -- a peer that has just begun
-pub record Begun {S : Type 0} (r : Rules S) (seat : Seat) (window : ℕ) (p : Peer) (inputs states : List ℕ) : Type 0 where
+pub record Begun {S : Type 0} (r : SavedRules S) (seat : Seat) (window : ℕ) (p : Peer) (inputs states : List ℕ) : Type 0 where
   pub seat_is : p.seat ≡ seat
   pub window_is : p.window ≡ window
   pub roomy : Roomy window inputs states
@@ -53,7 +53,7 @@ pub record Begun {S : Type 0} (r : Rules S) (seat : Seat) (window : ℕ) (p : Pe
   pub kept : Kept r p inputs states
 
 -- what an event does to a peer's numbers and its lent memory
-pub record Happened {S : Type 0} (r : Rules S) (p : Peer) (inputs states : List ℕ) (e : Event) (q : Peer) (inputs' states' : List ℕ) : Type 0 where
+pub record Happened {S : Type 0} (r : SavedRules S) (p : Peer) (inputs states : List ℕ) (e : Event) (q : Peer) (inputs' states' : List ℕ) : Type 0 where
   pub window_same : q.window ≡ p.window
   pub seat_same : q.seat ≡ p.seat
   pub inputs_same : length inputs' ≡ length inputs
@@ -64,5 +64,5 @@ pub record Happened {S : Type 0} (r : Rules S) (p : Peer) (inputs states : List 
   pub keeps : Roomy p.window inputs states → Kept r p inputs states → Kept r q inputs' states'
 
 -- what is shown: whatever the inputs are that the saved states stand for, the plain game with them and with what they predict
-abbrev pub Shown : {S : Type 0} → Rules S → Peer → List ℕ → S → Type 0
+abbrev pub Shown : {S : Type 0} → SavedRules S → Peer → List ℕ → S → Type 0
 Shown r p states s = (inputs : List ℕ) → Long inputs → Kept r p inputs states → s ≡ shows r.game p.seat (log_of p inputs)

@@ -1,20 +1,22 @@
 // What a peer does: it begins, ticks and takes in packets. The memory that it is lent is tested at each call.
 ghost use Rattle.std.specs.Prelude.{◌≡◌, ℕ, ◌+◌, ◌<◌, ◌≤◌, true, not, ◌&&◌, ◌||◌, length, is_err, IfOk, Ok, ◌≢◌, nat_lt};
-ghost use Rattle.peer.specs.declared.outcome.Outcome.TheVariants.{Taken};
+ghost use Rattle.rollback.specs.declared.outcome.Outcome.TheVariants.{Taken};
 ghost use Rattle.peer.specs.Lent.{Untouched, log_of, with_own};
 ghost use Rattle.peer.specs.Peers.{tick as ticked, arrival, predicted};
-ghost use Rattle.peer.specs.Said.{begin_checked, as_checked, said_tick, said_arrival};
+ghost use Rattle.rollback.specs.Said.{begin_checked, said_tick, said_arrival};
+ghost use Rattle.peer.specs.Said.{as_checked};
 ghost use Rattle.rollback.specs.Saved.{Roomy, Behind, Kept, Begun, Happened};
 
 use crate::frames::play_frame;
 use crate::incoming::take_in;
 use crate::memory::check_memory;
+use crate::outcome::Outcome;
 use crate::slots::{load_at, save_at, slot_of};
-use game::rules::Game;
+use game::saved::SavedGame;
 use game::seat::Seat;
 use packet::Packet;
 use peer::log::{HALF, push_own};
-use peer::{Outcome, Peer, Refusal};
+use peer::{Peer, Refusal};
 
 const MOST_WINDOW: usize = 60;
 
@@ -38,14 +40,14 @@ pub fn check_begin(window: usize, inputs: &[u8], states: &[u8]) -> Result<(), Re
 
 // A new peer, or why there is none: the window, the lent inputs or the lent states. The state that the game starts with is saved
 // in the first slot; a refusal changes nothing.
-pub fn begin<G: Game>(
+pub fn begin<G: SavedGame>(
     seat: Seat,
     window: usize,
     inputs: &[u8],
     states: &mut [u8],
 ) -> Result<Peer, Refusal>
     ensures answer { as_checked result ≡ begin_checked window (length inputs.now) (length states.old) }
-    ensures begun { IfOk result (λ p. Begun rules seat window p inputs.now states.new) }
+    ensures begun { IfOk result (λ p. Begun G.rules seat window p inputs.now states.new) }
     ensures behind { Behind 1 states.old states.new }
     ensures idle { is_err result ≡ true → states.new ≡ states.old }
 {
@@ -70,7 +72,7 @@ fn may_play(p: &Peer) -> bool
 }
 
 // One frame more, with an input of its own. Hands back how many frames it played.
-fn go_on<G: Game>(p: &mut Peer, inputs: &mut [u8], states: &mut [u8], input: u8) -> usize
+fn go_on<G: SavedGame>(p: &mut Peer, inputs: &mut [u8], states: &mut [u8], input: u8) -> usize
     requires roomy { Roomy p.old.window inputs.old states.old }
     requires few { p.old.own < 1000000 }
     requires near { p.old.own < p.old.other + p.old.window }
@@ -79,7 +81,7 @@ fn go_on<G: Game>(p: &mut Peer, inputs: &mut [u8], states: &mut [u8], input: u8)
     ensures log { log_of p.new inputs.new ≡ with_own (log_of p.old inputs.old) input }
     ensures untouched { Untouched p.old inputs.old p.new inputs.new }
     ensures behind { Behind (p.old.window + 1) states.old states.new }
-    ensures keeps { Kept rules p.old inputs.old states.old → Kept rules p.new inputs.new states.new }
+    ensures keeps { Kept G.rules p.old inputs.old states.old → Kept G.rules p.new inputs.new states.new }
     ensures count { result ≡ 1 }
 {
     let frame = p.own;
@@ -91,9 +93,9 @@ fn go_on<G: Game>(p: &mut Peer, inputs: &mut [u8], states: &mut [u8], input: u8)
 }
 
 // A frame's time, with the input at the peer's own seat.
-pub fn tick<G: Game>(p: &mut Peer, inputs: &mut [u8], states: &mut [u8], input: u8) -> Outcome
-    ensures answer { result ≡ said_tick rules.fits p.old.window (length inputs.old) (length states.old) (log_of p.old inputs.old) input }
-    ensures happens { Happened rules p.old inputs.old states.old (ticked input) p.new inputs.new states.new }
+pub fn tick<G: SavedGame>(p: &mut Peer, inputs: &mut [u8], states: &mut [u8], input: u8) -> Outcome
+    ensures answer { result ≡ said_tick G.rules.fits p.old.window (length inputs.old) (length states.old) (log_of p.old inputs.old) input }
+    ensures happens { Happened G.rules p.old inputs.old states.old (ticked input) p.new inputs.new states.new }
     ensures idle { ((n : ℕ) → result ≢ Taken n) → (p.new ≡ p.old) × (inputs.new ≡ inputs.old) × (states.new ≡ states.old) }
     ensures few { (n : ℕ) → result ≡ Taken n → n ≤ p.old.window }
 {
@@ -110,9 +112,14 @@ pub fn tick<G: Game>(p: &mut Peer, inputs: &mut [u8], states: &mut [u8], input: 
 }
 
 // Bytes that came from the other.
-pub fn receive<G: Game>(p: &mut Peer, inputs: &mut [u8], states: &mut [u8], bytes: &[u8]) -> Outcome
+pub fn receive<G: SavedGame>(
+    p: &mut Peer,
+    inputs: &mut [u8],
+    states: &mut [u8],
+    bytes: &[u8],
+) -> Outcome
     ensures answer { result ≡ said_arrival p.old.window (length inputs.old) (length states.old) (log_of p.old inputs.old) bytes.now }
-    ensures happens { Happened rules p.old inputs.old states.old (arrival bytes.now) p.new inputs.new states.new }
+    ensures happens { Happened G.rules p.old inputs.old states.old (arrival bytes.now) p.new inputs.new states.new }
     ensures idle { ((n : ℕ) → result ≢ Taken n) → (p.new ≡ p.old) × (inputs.new ≡ inputs.old) × (states.new ≡ states.old) }
     ensures few { (n : ℕ) → result ≡ Taken n → n ≤ p.old.window }
     ensures guessed { (n : ℕ) → result ≡ Taken n → predicted (log_of p.old inputs.old) ≡ predicted (log_of p.new inputs.new) → (n ≡ 0) × (states.new ≡ states.old) }

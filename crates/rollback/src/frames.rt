@@ -4,7 +4,7 @@ ghost use Rattle.peer.specs.Lent.{seated, own_at, other_at};
 ghost use Rattle.rollback.specs.Saved.{Roomy, with_slot, by_seat};
 
 use crate::slots::{save_at, slot_of};
-use game::rules::Game;
+use game::saved::SavedGame;
 use game::seat::Seat;
 use peer::Peer;
 use peer::log::other_input;
@@ -21,7 +21,7 @@ fn seat_inputs(seat: Seat, own: u8, other: u8) -> (u8, u8)
 
 // Plays the frame behind so many from the state before it, saves the state that it comes to, and counts the frame.
 // Nothing else plays a frame, so every frame that is played is counted, and none that is not.
-pub(crate) fn play_frame<G: Game>(
+pub(crate) fn play_frame<G: SavedGame>(
     p: &Peer,
     inputs: &[u8],
     states: &mut [u8],
@@ -32,8 +32,8 @@ pub(crate) fn play_frame<G: Game>(
     requires roomy { Roomy p.now.window inputs.now states.old }
     requires made { frame < p.now.own }
     requires few { played.old ≤ 1000000 }
-    ensures value { seen result ≡ (seated p.now.seat rules.game).frame (seen state) (own_at inputs.now frame) (other_at p.now.other inputs.now frame) }
-    ensures saved { states.new ≡ with_slot states.old ((frame + 1) % (p.now.window + 1)) (rules.coded (seen result)) }
+    ensures value { G.seen result ≡ (seated p.now.seat G.rules.game).frame (G.seen state) (own_at inputs.now frame) (other_at p.now.other inputs.now frame) }
+    ensures saved { states.new ≡ with_slot states.old ((frame + 1) % (p.now.window + 1)) (G.rules.coded (G.seen result)) }
     ensures count { played.new ≡ played.old + 1 }
 {
     let other = other_input(inputs, p.other, frame);

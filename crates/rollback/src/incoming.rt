@@ -6,7 +6,7 @@ ghost use Rattle.peer.specs.Peers.{heard, predicted, to_play};
 ghost use Rattle.rollback.specs.Saved.{Roomy, Behind, Kept};
 
 use crate::replay::replay;
-use game::rules::Game;
+use game::saved::SavedGame;
 use packet::Packet;
 use peer::Peer;
 use peer::log::{HALF, join, other_input};
@@ -32,7 +32,7 @@ fn first_wrong(p: &Peer, inputs: &[u8], came: usize) -> usize
 
 // Takes in a packet. Where all was predicted right it plays nothing, and no byte of the states changes; else it goes back to the
 // state before the first wrong frame and plays on from there. Hands back how many frames it played.
-pub(crate) fn take_in<G: Game>(
+pub(crate) fn take_in<G: SavedGame>(
     p: &mut Peer,
     inputs: &mut [u8],
     states: &mut [u8],
@@ -45,7 +45,7 @@ pub(crate) fn take_in<G: Game>(
     ensures log { log_of p.new inputs.new ≡ heard (log_of p.old inputs.old) (Ok (message_of packet.entry)) }
     ensures untouched { Untouched p.old inputs.old p.new inputs.new }
     ensures behind { Behind (p.old.window + 1) states.old states.new }
-    ensures keeps { Kept rules p.old inputs.old states.old → Kept rules p.new inputs.new states.new }
+    ensures keeps { Kept G.rules p.old inputs.old states.old → Kept G.rules p.new inputs.new states.new }
     ensures count { result ≡ to_play (log_of p.old inputs.old) (log_of p.new inputs.new) }
     ensures few { result ≤ p.old.window }
     ensures guessed { predicted (log_of p.old inputs.old) ≡ predicted (log_of p.new inputs.new) → (result ≡ 0) × (states.new ≡ states.old) }

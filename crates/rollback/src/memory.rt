@@ -1,8 +1,8 @@
 // Lent memory, as each call tests it.
 ghost use Rattle.std.specs.Prelude.{◌≡◌, ◌≤◌, length};
-ghost use Rattle.peer.specs.Said.{memory_checked};
+ghost use Rattle.rollback.specs.Said.{memory_checked};
 
-use game::rules::STATE_BYTES;
+use game::saved::STATE_BYTES;
 use peer::Refusal;
 use peer::log::HALF;
 

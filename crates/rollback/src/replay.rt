@@ -1,21 +1,21 @@
 // Going back: frames played once more from a saved state.
 ghost use Rattle.std.specs.Prelude.{◌≡◌, ◌+◌, ◌%◌, ◌≤◌};
 ghost use Rattle.peer.specs.Lent.{seated, after};
-ghost use Rattle.rollback.specs.Saved.{Roomy, Behind, Saved, slot as slot-in};
+ghost use Rattle.rollback.specs.Saved.{Roomy, Behind, Saved, slot as slot_in};
 
 use crate::frames::play_frame;
 use crate::slots::{load_at, slot_of};
-use game::rules::Game;
+use game::saved::SavedGame;
 use peer::Peer;
 
 // Plays on from the state saved after so many frames to the peer's last, and saves each state on the way.
 // Hands back how many frames it played.
-pub(crate) fn replay<G: Game>(p: &Peer, inputs: &[u8], states: &mut [u8], from: usize) -> usize
+pub(crate) fn replay<G: SavedGame>(p: &Peer, inputs: &[u8], states: &mut [u8], from: usize) -> usize
     requires roomy { Roomy p.now.window inputs.now states.old }
     requires back { from ≤ p.now.own }
     requires near { p.now.own ≤ from + p.now.window }
     ensures count { result + from ≡ p.now.own }
-    ensures saved { slot-in states.old (from % (p.now.window + 1)) ≡ rules.coded (after (seated p.now.seat rules.game) inputs.now p.now.other from) → Saved rules p.now.seat p.now.window inputs.now p.now.other states.new from p.now.own }
+    ensures saved { slot_in states.old (from % (p.now.window + 1)) ≡ G.rules.coded (after (seated p.now.seat G.rules.game) inputs.now p.now.other from) → Saved G.rules p.now.seat p.now.window inputs.now p.now.other states.new from p.now.own }
     ensures behind { Behind (p.now.window + 1) states.old states.new }
 {
     let mut state: G = load_at(states, slot_of(p, from));

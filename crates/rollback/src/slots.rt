@@ -1,8 +1,8 @@
 // Saved states in lent memory, in slots of 64 bytes.
 ghost use Rattle.std.specs.Prelude.{◌≡◌, ◌+◌, ◌*◌, ◌%◌, ◌≤◌, length};
-ghost use Rattle.rollback.specs.Saved.{slot as slot-in, with_slot};
+ghost use Rattle.rollback.specs.Saved.{slot as slot_in, with_slot};
 
-use game::rules::{Game, STATE_BYTES};
+use game::saved::{STATE_BYTES, SavedGame};
 use peer::Peer;
 
 // Where the state after so many frames lies. There is one slot more than the window, so no state is lost that may be gone back to.
@@ -14,17 +14,17 @@ pub(crate) fn slot_of(p: &Peer, frames: usize) -> usize
 }
 
 // Writes one slot. No other byte changes.
-pub(crate) fn save_at<G: Game>(states: &mut [u8], slot: usize, state: G)
+pub(crate) fn save_at<G: SavedGame>(states: &mut [u8], slot: usize, state: G)
     requires { slot * 64 + 64 ≤ length states.old }
-    ensures { states.new ≡ with_slot states.old slot (rules.coded (seen state)) }
+    ensures { states.new ≡ with_slot states.old slot (G.rules.coded (G.seen state)) }
 {
     let at = slot * STATE_BYTES;
     state.save(&mut states[at..at + STATE_BYTES]);
 }
 
-pub(crate) fn load_at<G: Game>(states: &[u8], slot: usize) -> G
+pub(crate) fn load_at<G: SavedGame>(states: &[u8], slot: usize) -> G
     requires { slot * 64 + 64 ≤ length states.now }
-    ensures { (s : model) → rules.ok s → slot-in states.now slot ≡ rules.coded s → seen result ≡ s }
+    ensures { (s : G.model) → G.rules.ok s → slot_in states.now slot ≡ G.rules.coded s → G.seen result ≡ s }
 {
     let at = slot * STATE_BYTES;
     G::load(&states[at..at + STATE_BYTES])

@@ -1,19 +1,19 @@
 // Theorems about the peer that goes back, for any game, each on the contract of a function.
 ghost use Rattle.rollback.specs.Rows.{KeepsLog, SameShown, PlaysOn};
 
-use game::rules::Game;
+use game::saved::SavedGame;
 
 // A peer has the log that the definitions give, whatever events came, right and wrong, and has saved the states that it asks for.
-pub fn keeps_log<G: Game>()
-    ensures { KeepsLog rules }
+pub fn keeps_log<G: SavedGame>()
+    ensures { KeepsLog G.rules }
 {}
 
 // What it shows is the plain game with the inputs of that log, those that have not come predicted.
-pub fn same_shown<G: Game>()
-    ensures { SameShown rules }
+pub fn same_shown<G: SavedGame>()
+    ensures { SameShown G.rules }
 {}
 
 // Playing on from any state that it has saved leads to what it shows.
-pub fn plays_on<G: Game>()
-    ensures { PlaysOn rules }
+pub fn plays_on<G: SavedGame>()
+    ensures { PlaysOn G.rules }
 {}

@@ -11,15 +11,15 @@ pub returns : goal.returns
 unfolding Saved
 returns g c =
     let p = c.args.p.now in
-    let q = c.push-own.new.p in
-    let r = g.G.Game.rules in
-    let law = g.met.G.Game.lawful in
+    let q = c.push_own.new.p in
+    let r = g.G.SavedGame.rules in
+    let law = g.met.G.SavedGame.lawful in
     let xs = c.args.inputs.now in
-    let ys = c.push-own.new.inputs in
+    let ys = c.push_own.new.inputs in
     let states = c.args.states.now in
-    let did = c.push-own.ensures in
+    let did = c.push_own.ensures in
     let a = p.own in
-    let s = g.G.Game.seen c.play-frame.result in
+    let s = g.G.SavedGame.seen c.play_frame.result in
     let few = p.few in
     let room : (q.window + 1) * 64 ≤ length states = omega (arith, c.requires.roomy.states_long, did.window) in
     let here : (a + 1) % (q.window + 1) < q.window + 1 = mod-lt (a + 1) (omega arith) in
@@ -28,7 +28,7 @@ returns g c =
       seat = did.seat;
       log = did.log;
       untouched = did.untouched;
-      behind = λ i h. ap (λ zs. get_or zs i 0) c.play-frame.ensures.saved ∙ slot_behind states (r.coded s) ((a + 1) % (q.window + 1)) (q.window + 1) here room (law.long s) i (omega (arith, did.window));
+      behind = λ i h. ap (λ zs. get_or zs i 0) c.play_frame.ensures.saved ∙ slot_behind states (r.coded s) ((a + 1) % (q.window + 1)) (q.window + 1) here room (law.long s) i (omega (arith, did.window));
       keeps = λ kept.
           let lo = min p.own p.other in
           let same : (k : ℕ) → k ≤ a → after (seated p.seat r.game) xs p.other k ≡ after (seated p.seat r.game) ys q.other k =
@@ -37,13 +37,13 @@ returns g c =
           (λ i h. other_same xs ys p.other i (λ j m. did.untouched (1000000 + j) (λ out. omega (arith, out.1, did.own, c.requires.few)) (λ out. omega (arith, out.0))) ∙ ap (λ n. other_at n ys i) (sym did.other)) in
           let moved : Saved r q.seat q.window ys q.other states lo a = saved_as r p.seat q.seat p.window q.window xs ys p.other q.other states lo lo a a did.seat did.window (omega arith) (omega arith) same kept in
           let game = seated q.seat r.game in
-          let last : g.G.Game.seen c.load-at-last.result ≡ after game ys q.other a =
-          c.load-at-last.ensures (after game ys q.other a) (after_ok r law q.seat ys q.other a)
-          (ap (slot states) (c.slot-of.ensures.value ∙ ap (λ n. a % (n + 1)) (sym did.window)) ∙ moved a (omega arith) (omega arith)) in
+          let last : g.G.SavedGame.seen c.load_at-last.result ≡ after game ys q.other a =
+          c.load_at-last.ensures (after game ys q.other a) (after_ok r law q.seat ys q.other a)
+          (ap (slot states) (c.slot_of.ensures.value ∙ ap (λ n. a % (n + 1)) (sym did.window)) ∙ moved a (omega arith) (omega arith)) in
           let next : s ≡ after game ys q.other (a + 1) =
-          c.play-frame.ensures.value ∙ ap (λ t. game.frame t (own_at ys a) (other_at q.other ys a)) last ∙ sym (after_more game ys q.other a) in
+          c.play_frame.ensures.value ∙ ap (λ t. game.frame t (own_at ys a) (other_at q.other ys a)) last ∙ sym (after_more game ys q.other a) in
           let more = saved_more r law q.seat q.window ys q.other states lo a s (omega (arith, did.window, p.near.0, c.requires.near)) room next moved in
-          subst (λ zs. Saved r q.seat q.window ys q.other zs (min q.own q.other) q.own) (sym c.play-frame.ensures.saved)
+          subst (λ zs. Saved r q.seat q.window ys q.other zs (min q.own q.other) q.own) (sym c.play_frame.ensures.saved)
           (saved_as r q.seat q.seat q.window q.window ys ys q.other q.other _ lo (min q.own q.other) (a + 1) q.own refl refl (omega (arith, did.own, did.other)) (omega (arith, did.own)) (λ k l. refl) more);
-      count = c.play-frame.ensures.count;
+      count = c.play_frame.ensures.count;
     }

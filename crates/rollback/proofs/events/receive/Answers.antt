@@ -1,16 +1,16 @@
 use Rattle.std.proofs.Common.{length, Ok, Err, sym, refl, ap, ◌∙◌, arith, rules}
 use Rattle.packet.specs.Wire.{message_of}
-use Rattle.peer.specs.declared.outcome.Outcome.TheVariants.{Taken}
+use Rattle.rollback.specs.declared.outcome.Outcome.TheVariants.{Taken}
 use Rattle.peer.specs.Lent.{log_of}
 use Rattle.peer.specs.Peers.{arrival, to_play}
 use Rattle.peer.proofs.Logs.{own_long}
-use Rattle.peer.proofs.Happens.{checked_room, checked_short, arrival_refused, arrival_read}
+use Rattle.rollback.proofs.Happens.{checked_room, checked_short, arrival_refused, arrival_read}
 use Rattle.rollback.proofs.Unmoved.{unmoved, refused_taken, taken_taken}
 use Rattle.rollback.proofs.events.receive.Goals as goal
 
 pub returns-in-Err : goal.returns-in-Err
 returns-in-Err g c =
-    let r = g.G.Game.rules in
+    let r = g.G.SavedGame.rules in
     let p = c.args.p.now in
     let xs = c.args.inputs.now in
     let states = c.args.states.now in
@@ -27,14 +27,14 @@ returns-in-Err g c =
 
 pub returns-in-Ok : goal.returns-in-Ok
 returns-in-Ok g c =
-    let r = g.G.Game.rules in
+    let r = g.G.SavedGame.rules in
     let p = c.args.p.now in
-    let q = c.take-in.new.p in
+    let q = c.take_in.new.p in
     let xs = c.args.inputs.now in
     let states = c.args.states.now in
     let bytes = c.args.bytes.now in
-    let did = c.take-in.ensures in
-    let m = c.in-default.ensures in
+    let did = c.take_in.ensures in
+    let m = c.in_default.ensures in
     let room = checked_room p.window (length xs) (length states) m in
     let t = arrival_read r.fits p.window (length xs) (length states) (log_of p xs) bytes p.own (Ok (message_of c.in-Ok.packet)) m (own_long p xs room.0) c.in-Ok.ensures.value in
     record {
@@ -56,12 +56,12 @@ returns-in-Ok g c =
 
 pub returns-in-Err-read : goal.returns-in-Err-read
 returns-in-Err-read g c =
-    let r = g.G.Game.rules in
+    let r = g.G.SavedGame.rules in
     let p = c.args.p.now in
     let xs = c.args.inputs.now in
     let states = c.args.states.now in
     let bytes = c.args.bytes.now in
-    let m = c.in-default.ensures in
+    let m = c.in_default.ensures in
     let room = checked_room p.window (length xs) (length states) m in
     let t = arrival_read r.fits p.window (length xs) (length states) (log_of p xs) bytes p.own (Err c.in-Err-read.fault) m (own_long p xs room.0) c.in-Err-read.ensures.value in
     record {

@@ -1,14 +1,15 @@
 use Rattle.std.proofs.Common.{◌≡◌, true, false, length, sym, refl, ap, ◌∙◌, arith, rules}
-use Rattle.peer.specs.declared.outcome.Outcome.TheVariants.{Taken}
+use Rattle.rollback.specs.declared.outcome.Outcome.TheVariants.{Taken}
 use Rattle.peer.specs.Lent.{log_of}
 use Rattle.peer.specs.Peers.{tick, goes_on}
-use Rattle.peer.proofs.Happens.{checked_room, checked_short, goes_on_is, tick_refused, tick_unfit, tick_lost, tick_taken}
+use Rattle.peer.proofs.Happens.{goes_on_is}
+use Rattle.rollback.proofs.Happens.{checked_room, checked_short, tick_refused, tick_unfit, tick_lost, tick_taken}
 use Rattle.rollback.proofs.Unmoved.{unmoved, refused_taken, lost_taken, taken_taken}
 use Rattle.rollback.proofs.events.tick.Goals as goal
 
 pub returns-in-Err : goal.returns-in-Err
 returns-in-Err g c =
-    let r = g.G.Game.rules in
+    let r = g.G.SavedGame.rules in
     let p = c.args.p.now in
     let xs = c.args.inputs.now in
     let states = c.args.states.now in
@@ -23,34 +24,34 @@ returns-in-Err g c =
 
 pub returns-then-not-fits : goal.returns-then-not-fits
 returns-then-not-fits g c =
-    let r = g.G.Game.rules in
+    let r = g.G.SavedGame.rules in
     let p = c.args.p.now in
     let xs = c.args.inputs.now in
     let states = c.args.states.now in
-    let t = tick_unfit r.fits p.window (length xs) (length states) (log_of p xs) c.args.input c.in-default.ensures (sym c.if-not-fits.ensures) in
+    let t = tick_unfit r.fits p.window (length xs) (length states) (log_of p xs) c.args.input c.in_default.ensures (sym c.if-not-fits.ensures) in
     record { answer = t.0; happens = unmoved r p xs states (tick c.args.input) (λ _. t.1); idle = λ _. (refl, refl, refl); few = λ n e. absurd (refused_taken _ n e) }
 
-pub returns-then-not-may-play : goal.returns-then-not-may-play
-returns-then-not-may-play g c =
-    let r = g.G.Game.rules in
+pub returns-then-not-may_play : goal.returns-then-not-may_play
+returns-then-not-may_play g c =
+    let r = g.G.SavedGame.rules in
     let p = c.args.p.now in
     let xs = c.args.inputs.now in
     let states = c.args.states.now in
-    let room = checked_room p.window (length xs) (length states) c.in-default.ensures in
-    let n : goes_on p.window (log_of p xs) ≡ false = goes_on_is p xs room.0 ∙ sym c.if-not-may-play.ensures in
-    let t = tick_lost r.fits p.window (length xs) (length states) (log_of p xs) c.args.input c.in-default.ensures (sym c.if-not-fits.ensures) n in
+    let room = checked_room p.window (length xs) (length states) c.in_default.ensures in
+    let n : goes_on p.window (log_of p xs) ≡ false = goes_on_is p xs room.0 ∙ sym c.if-not-may_play.ensures in
+    let t = tick_lost r.fits p.window (length xs) (length states) (log_of p xs) c.args.input c.in_default.ensures (sym c.if-not-fits.ensures) n in
     record { answer = t.0; happens = unmoved r p xs states (tick c.args.input) (λ _. t.1); idle = λ _. (refl, refl, refl); few = λ n e. absurd (lost_taken n e) }
 
 pub returns : goal.returns
 returns g c =
-    let r = g.G.Game.rules in
+    let r = g.G.SavedGame.rules in
     let p = c.args.p.now in
     let xs = c.args.inputs.now in
     let states = c.args.states.now in
-    let did = c.go-on.ensures in
-    let room = checked_room p.window (length xs) (length states) c.in-default.ensures in
-    let n : goes_on p.window (log_of p xs) ≡ true = goes_on_is p xs room.0 ∙ sym c.if-not-may-play.ensures in
-    let t = tick_taken r.fits p.window (length xs) (length states) (log_of p xs) c.args.input c.in-default.ensures (sym c.if-not-fits.ensures) n in
+    let did = c.go_on.ensures in
+    let room = checked_room p.window (length xs) (length states) c.in_default.ensures in
+    let n : goes_on p.window (log_of p xs) ≡ true = goes_on_is p xs room.0 ∙ sym c.if-not-may_play.ensures in
+    let t = tick_taken r.fits p.window (length xs) (length states) (log_of p xs) c.args.input c.in_default.ensures (sym c.if-not-fits.ensures) n in
     record {
       answer = ap Taken did.count ∙ t.0;
       happens = record {

@@ -9,7 +9,7 @@ use Rattle.rollback.proofs.replay.replay.Goals as goal
 pub replay-init : goal.replay-init
 replay-init g c =
     let p = c.args.p.now in
-    let r = g.G.Game.rules in
+    let r = g.G.SavedGame.rules in
     let xs = c.args.inputs.now in
     let from = c.args.from in
     let states = c.args.states.now in (
@@ -18,7 +18,7 @@ replay-init g c =
       omega arith,
       λ i h. refl,
       λ e. (
-        c.load-at-state.ensures (after (seated p.seat r.game) xs p.other from) (after_ok r g.met.G.Game.lawful p.seat xs p.other from) (ap (slot states) c.slot-of.ensures.value ∙ e),
+        c.load_at-state.ensures (after (seated p.seat r.game) xs p.other from) (after_ok r g.met.G.SavedGame.lawful p.seat xs p.other from) (ap (slot states) c.slot_of.ensures.value ∙ e),
         saved_one r p.seat p.window xs p.other states from e,
       ),
     )
@@ -26,28 +26,28 @@ replay-init g c =
 pub replay-preserved : goal.replay-preserved
 replay-preserved g c =
     let p = c.args.p.now in
-    let r = g.G.Game.rules in
-    let law = g.met.G.Game.lawful in
+    let r = g.G.SavedGame.rules in
+    let law = g.met.G.SavedGame.lawful in
     let game = seated p.seat r.game in
     let xs = c.args.inputs.now in
     let k = c.replay.k in
     let from = c.args.from in
     let states = c.replay.states in
-    let s = g.G.Game.seen c.play-frame-state.result in
+    let s = g.G.SavedGame.seen c.play_frame-state.result in
     let room : (p.window + 1) * 64 ≤ length states = search rules in
     let here : (k + 1) % (p.window + 1) < p.window + 1 = mod-lt (k + 1) (omega arith) in (
       omega arith,
       omega arith,
-      omega (arith, c.play-frame-state.ensures.count),
-      λ i h. ap (λ zs. get_or zs i 0) c.play-frame-state.ensures.saved
+      omega (arith, c.play_frame-state.ensures.count),
+      λ i h. ap (λ zs. get_or zs i 0) c.play_frame-state.ensures.saved
           ∙ slot_behind states (r.coded s) ((k + 1) % (p.window + 1)) (p.window + 1) here room (law.long s) i h
           ∙ c.replay.invariant.3 i h,
       λ e.
           let was = c.replay.invariant.4 e in
           let next : s ≡ after game xs p.other (k + 1) =
-          c.play-frame-state.ensures.value ∙ ap (λ t. game.frame t (own_at xs k) (other_at p.other xs k)) was.0 ∙ sym (after_more game xs p.other k) in (
+          c.play_frame-state.ensures.value ∙ ap (λ t. game.frame t (own_at xs k) (other_at p.other xs k)) was.0 ∙ sym (after_more game xs p.other k) in (
             next,
-            subst (λ zs. Saved r p.seat p.window xs p.other zs from (k + 1)) (sym c.play-frame-state.ensures.saved)
+            subst (λ zs. Saved r p.seat p.window xs p.other zs from (k + 1)) (sym c.play_frame-state.ensures.saved)
                 (saved_more r law p.seat p.window xs p.other states from k s (omega arith) room next was.1),
           ),
     )

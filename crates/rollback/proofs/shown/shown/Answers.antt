@@ -9,11 +9,11 @@ pub returns : goal.returns
 unfolding Saved
 returns g c =
     let p = c.args.p.now in
-    let r = g.G.Game.rules in
+    let r = g.G.SavedGame.rules in
     let states = c.args.states.now in (
       c.if-few.false,
       λ inputs long kept.
-          c.load-at.ensures (after (seated p.seat r.game) inputs p.other p.own) (after_ok r g.met.G.Game.lawful p.seat inputs p.other p.own)
-          (ap (slot states) c.slot-of.ensures.value ∙ kept p.own (omega arith) (omega arith))
+          c.load_at.ensures (after (seated p.seat r.game) inputs p.other p.own) (after_ok r g.met.G.SavedGame.lawful p.seat inputs p.other p.own)
+          (ap (slot states) c.slot_of.ensures.value ∙ kept p.own (omega arith) (omega arith))
           ∙ shown_is p.seat r.game p inputs long,
     )

@@ -1,0 +1,63 @@
+-- What events do and what is said of them, case by case. Assumes nothing.
+use Rattle.std.proofs.Common.{◌≡◌, ℕ, ◌+◌, ◌*◌, ◌≤◌, Bool, true, false, ◌&&◌, ltb, List, length, Ok, Err, Result, sym, ap, ◌∙◌, arith}
+use Rattle.std.proofs.lemmas.Bool.Decides.{nat_tests}
+use Rattle.packet.specs.Wire.{Message, reading}
+use Rattle.packet.specs.declared.fault.Fault.{Fault}
+use Rattle.peer.specs.declared.numbers.Peer.{Peer}
+use Rattle.peer.specs.declared.outcome.Refusal.{Refusal}
+use Rattle.peer.specs.declared.outcome.Refusal.TheVariants.{Input}
+use Rattle.rollback.specs.declared.outcome.Outcome.TheVariants.{Taken, Lost, Refused}
+use Rattle.peer.specs.Lent.{Long, log_of, with_own}
+use Rattle.peer.specs.Peers.{Log, tick, arrival, goes_on, heard, event}
+use Rattle.rollback.specs.Said.{memory_checked, begin_checked, said_tick, said_read, said_arrival}
+use Rattle.peer.proofs.Logs.{own_long, other_long}
+
+-- memory that is not refused is long enough
+pub checked_room : (window inputs states : ℕ) → Ok tt ≡ memory_checked window inputs states → (2000000 ≤ inputs) × ((window + 1) * 64 ≤ states)
+checked_room window inputs states e = (grind (arith, nat_tests), grind (arith, nat_tests))
+
+-- and memory that is refused is not
+pub checked_short : (window inputs states : ℕ) (f : Refusal) → Err f ≡ memory_checked window inputs states → 2000000 ≤ inputs → (window + 1) * 64 ≤ states → ⊥
+checked_short window inputs states f e h k = grind (arith, nat_tests)
+
+-- ---- ticks
+
+-- whether a tick plays, by the numbers
+pub goes_on_is : (p : Peer) (inputs : List ℕ) → Long inputs → goes_on p.window (log_of p inputs) ≡ (ltb p.own 1000000 && ltb p.own (p.other + p.window))
+goes_on_is p inputs l =
+    ap (λ n. ltb n 1000000 && ltb n (length (log_of p inputs).other + p.window)) (own_long p inputs l)
+    ∙ ap (λ m. ltb p.own 1000000 && ltb p.own (m + p.window)) (other_long p inputs l)
+
+pub tick_refused : (fits : ℕ → Bool) (window inputs states : ℕ) (log : Log) (a : ℕ) (f : Refusal) → Err f ≡ memory_checked window inputs states → Refused f ≡ said_tick fits window inputs states log a
+unfolding said_tick
+tick_refused fits window inputs states log a f e = let d : memory_checked window inputs states ≡ Err f = sym e in simp d
+
+pub tick_unfit : (fits : ℕ → Bool) (window inputs states : ℕ) (log : Log) (a : ℕ) → Ok tt ≡ memory_checked window inputs states → fits a ≡ false → (Refused Input ≡ said_tick fits window inputs states log a) × (event fits window log (tick a) ≡ log)
+unfolding said_tick event
+tick_unfit fits window inputs states log a e f = let d : memory_checked window inputs states ≡ Ok tt = sym e in (simp (d, f), simp f)
+
+pub tick_lost : (fits : ℕ → Bool) (window inputs states : ℕ) (log : Log) (a : ℕ) → Ok tt ≡ memory_checked window inputs states → fits a ≡ true → goes_on window log ≡ false → (Lost ≡ said_tick fits window inputs states log a) × (event fits window log (tick a) ≡ log)
+unfolding said_tick event
+tick_lost fits window inputs states log a e f g = let d : memory_checked window inputs states ≡ Ok tt = sym e in (simp (d, f, g), simp (f, g))
+
+pub tick_taken : (fits : ℕ → Bool) (window inputs states : ℕ) (log : Log) (a : ℕ) → Ok tt ≡ memory_checked window inputs states → fits a ≡ true → goes_on window log ≡ true → (Taken 1 ≡ said_tick fits window inputs states log a) × (event fits window log (tick a) ≡ with_own log a)
+unfolding said_tick event
+tick_taken fits window inputs states log a e f g = let d : memory_checked window inputs states ≡ Ok tt = sym e in (simp (d, f, g), simp (f, g))
+
+-- ---- bytes that came
+
+pub arrival_refused : (window inputs states : ℕ) (log : Log) (xs : List ℕ) (f : Refusal) → Err f ≡ memory_checked window inputs states → Refused f ≡ said_arrival window inputs states log xs
+unfolding said_arrival
+arrival_refused window inputs states log xs f e = let d : memory_checked window inputs states ≡ Err f = sym e in simp d
+
+pub arrival_read : (fits : ℕ → Bool) (window inputs states : ℕ) (log : Log) (xs : List ℕ) (own : ℕ) (r : Result Message Fault) → Ok tt ≡ memory_checked window inputs states → length log.own ≡ own → r ≡ reading own xs → (said_read log r ≡ said_arrival window inputs states log xs) × (event fits window log (arrival xs) ≡ heard log r)
+unfolding said_arrival event
+arrival_read fits window inputs states log xs own r e n s =
+    let d : memory_checked window inputs states ≡ Ok tt = sym e in
+    let t : reading (length log.own) xs ≡ r = ap (λ k. reading k xs) n ∙ sym s in
+    (simp (d, t), ap (heard log) t)
+
+-- a peer that may begin has memory enough
+pub begun_room : (window inputs states : ℕ) → ◌≡◌ {A = Result (Unit {0}) Refusal} (Ok tt) (begin_checked window inputs states) → (2000000 ≤ inputs) × ((window + 1) * 64 ≤ states)
+unfolding begin_checked
+begun_room window inputs states e = (grind (arith, nat_tests), grind (arith, nat_tests))
