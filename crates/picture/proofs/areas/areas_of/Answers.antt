@@ -11,10 +11,10 @@ returns c =
     let f : SFits w32 c.args.s.right.x = search rules in
     let g : SFits w32 c.args.s.right.y = search rules in
     record {
-      ball_x = simp to_z-of_z at c.run-of.ensures;
-      ball_y = simp to_z-of_z at c.run-of-2.ensures;
-      left_x = simp to_z-of_z at c.run-of-3.ensures;
-      left_y = simp to_z-of_z at c.run-of-4.ensures;
-      right_x = simp to_z-of_z at c.run-of-5.ensures;
-      right_y = simp to_z-of_z at c.run-of-6.ensures;
+      ball_x = simp to_z-of_z at c.run_of.ensures;
+      ball_y = simp to_z-of_z at c.run_of-2.ensures;
+      left_x = simp to_z-of_z at c.run_of-3.ensures;
+      left_y = simp to_z-of_z at c.run_of-4.ensures;
+      right_x = simp to_z-of_z at c.run_of-5.ensures;
+      right_y = simp to_z-of_z at c.run_of-6.ensures;
     }

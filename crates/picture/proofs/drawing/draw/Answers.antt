@@ -8,9 +8,9 @@ use Rattle.picture.proofs.drawing.draw.Goals as goal
 pub loop-j-preserved : goal.loop-j-preserved
 loop-j-preserved c =
     let k : (160 * c.loop-j.j + 160) - 160 * c.loop-j.j ≡ 160 = omega arith in
-    ap (λ q. put_mid (160 * c.loop-j.j) q c.loop-j.picture c.draw-row.new.row) k
-    ∙ ap (λ l. put_mid (160 * c.loop-j.j) 160 l c.draw-row.new.row) c.loop-j.invariant
-    ∙ joins c.args.court.state c.args.picture.now c.draw-row.new.row c.loop-j.j c.draw-row.ensures
+    ap (λ q. put_mid (160 * c.loop-j.j) q c.loop-j.picture c.draw_row.new.row) k
+    ∙ ap (λ l. put_mid (160 * c.loop-j.j) 160 l c.draw_row.new.row) c.loop-j.invariant
+    ∙ joins c.args.court.state c.args.picture.now c.draw_row.new.row c.loop-j.j c.draw_row.ensures
 
 pub loop-j-init : goal.loop-j-init
 loop-j-init c = ap (λ l. l ++ c.args.picture.now) (sym (rows_none c.args.court.state))

@@ -3,8 +3,8 @@ use Rattle.picture.specs.Picture.{glyphs, in_digit}
 use Rattle.picture.proofs.Paints.{starts, ends, digit_in, digit_out, either}
 use Rattle.picture.proofs.score.paint_score.Goals as goal
 
-pub overflow-sub-k : goal.overflow-sub-k
-overflow-sub-k c = starts (record { from = 4; to = 9 }) c.args.j c.if-crosses.ensures
+pub overflow_sub-k : goal.overflow_sub-k
+overflow_sub-k c = starts (record { from = 4; to = 9 }) c.args.j c.if-crosses.ensures
 
 pub bounds-k : goal.bounds-k
 bounds-k c =
@@ -21,11 +21,11 @@ bounds-k-then-crosses c =
 pub returns-then-crosses : goal.returns-then-crosses
 unfolding glyphs
 returns-then-crosses c i =
-    let e1 = c.paint-digit.ensures i in
-    let e2 = c.paint-digit-then-crosses.ensures i in
+    let e1 = c.paint_digit.ensures i in
+    let e2 = c.paint_digit-then-crosses.ensures i in
     let d1 = digit_in c.from.result c.args.score.left 70 i c.args.j c.from.ensures c.if-crosses.ensures in
     let d2 = digit_in c.from-then-crosses.result c.args.score.right 87 i c.args.j c.from-then-crosses.ensures c.if-crosses.ensures in
-    e2 ∙ ap (λ q. cond q 4 (get_or c.paint-digit.new.row i 0)) d2
+    e2 ∙ ap (λ q. cond q 4 (get_or c.paint_digit.new.row i 0)) d2
     ∙ ap (cond (in_digit c.args.score.right 87 i c.args.j) 4) (e1 ∙ ap (λ q. cond q 4 (get_or c.args.row.now i 0)) d1)
     ∙ either (in_digit c.args.score.left 70 i c.args.j) (in_digit c.args.score.right 87 i c.args.j) 4 (get_or c.args.row.now i 0)
 

@@ -5,7 +5,7 @@ use Rattle.picture.proofs.text.text_of.Goals as goal
 
 pub loop-k-preserved : goal.loop-k-preserved
 loop-k-preserved c =
-    text_more (string_bytes c.loop-k.text) (string_bytes c.push-dot.new.text) c.args.picture.now (text_from 0 c.args.picture.now) c.loop-k.k c.loop-k-test.true c.in-ok-push-dot.ensures c.loop-k.invariant
+    text_more (string_bytes c.loop-k.text) (string_bytes c.push_dot.new.text) c.args.picture.now (text_from 0 c.args.picture.now) c.loop-k.k c.loop-k-test.true c.in_ok-push_dot.ensures c.loop-k.invariant
 
 pub returns : goal.returns
 returns c =
