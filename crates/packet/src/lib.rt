@@ -1,6 +1,8 @@
 // A packet between two peers, in bytes: reader and writer, each the other's inverse.
 // A packet is read where it lies: its inputs are a part of the slice that it was read from.
-// Rests on bytes.
+// Rests on byte_numbers.
+#![tactic(auto)]
+
 pub mod fault;
 pub mod message;
 mod read;

@@ -15,23 +15,23 @@ returns-then-unmade c = grind (arith, nat_tests)
 pub returns-then-unfit : goal.returns-then-unfit
 unfolding rest_checked
 returns-then-unfit c =
-    let s = searched c.args.packet.now c.min-there.result c.find-bad-bad.result (omega arith) (cc) c.find-bad-bad.ensures in
+    let s = searched c.args.packet.now c.min-there.result c.find_bad-bad.result (omega arith) (cc) c.find_bad-bad.ensures in
     grind (arith, nat_tests)
 
 pub returns-then-cut : goal.returns-then-cut
 unfolding rest_checked
 returns-then-cut c =
-    let s = searched c.args.packet.now c.min-there.result c.find-bad-bad.result (omega arith) (cc) c.find-bad-bad.ensures in
+    let s = searched c.args.packet.now c.min-there.result c.find_bad-bad.result (omega arith) (cc) c.find_bad-bad.ensures in
     grind (arith, nat_tests)
 
 pub returns-then-long : goal.returns-then-long
 unfolding rest_checked
 returns-then-long c =
-    let s = searched c.args.packet.now c.min-there.result c.find-bad-bad.result (omega arith) (cc) c.find-bad-bad.ensures in
+    let s = searched c.args.packet.now c.min-there.result c.find_bad-bad.result (omega arith) (cc) c.find_bad-bad.ensures in
     grind (arith, nat_tests)
 
 pub returns : goal.returns
 unfolding rest_checked
 returns c =
-    let s = searched c.args.packet.now c.min-there.result c.find-bad-bad.result (omega arith) (cc) c.find-bad-bad.ensures in
+    let s = searched c.args.packet.now c.min-there.result c.find_bad-bad.result (omega arith) (cc) c.find_bad-bad.ensures in
     grind (arith, nat_tests)

@@ -3,9 +3,9 @@ use Rattle.std.proofs.lemmas.Bool.Decides.{nat_tests}
 use Rattle.packet.specs.Wire.{start_checked}
 use Rattle.packet.proofs.read.check_start.Goals as goal
 
-pub returns-then-is-empty : goal.returns-then-is-empty
+pub returns-then-is_empty : goal.returns-then-is_empty
 unfolding start_checked
-returns-then-is-empty c = grind (arith, nat_tests)
+returns-then-is_empty c = grind (arith, nat_tests)
 
 pub returns-then-not-marked : goal.returns-then-not-marked
 unfolding start_checked
@@ -15,9 +15,9 @@ pub returns-then-short : goal.returns-then-short
 unfolding start_checked
 returns-then-short c = grind (arith, nat_tests)
 
-pub returns-then-past-end : goal.returns-then-past-end
+pub returns-then-past_end : goal.returns-then-past_end
 unfolding start_checked
-returns-then-past-end c = grind (arith, nat_tests)
+returns-then-past_end c = grind (arith, nat_tests)
 
 pub returns-then-many : goal.returns-then-many
 unfolding start_checked
