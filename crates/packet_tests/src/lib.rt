@@ -1,4 +1,5 @@
 // Tests of packets in bytes.
+#![tactic(auto)]
 
 #[cfg(test)]
 mod reading;

@@ -27,7 +27,7 @@ pub bounds-packet-5 : goal.bounds-packet-5
 bounds-packet-5 c = let s = started c.args.packet.now (sym c.in_ok-check_start.ensures) in omega arith
 
 pub get_u32-requires : goal.get_u32-requires
-get_u32-requires c = let s = started c.args.packet.now (sym c.in_ok-check_start.ensures) in omega arith
+get_u32-requires c = let t = ended c.args.own c.args.packet.now (sym c.in_ok-check_rest.ensures) in omega arith
 
 pub get_u32-requires-2 : goal.get_u32-requires-2
 get_u32-requires-2 c = let t = ended c.args.own c.args.packet.now (sym c.in_ok-check_rest.ensures) in omega arith
