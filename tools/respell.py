@@ -17,7 +17,7 @@ import sys
 WORD = re.compile(r"(?<![\w'’-])[^\W\d_][\w']*(?:-[\w'ℕℤ≡≤*+]+)+(?![\w'-])")
 PLAIN = re.compile(r"[^\W\d_][\w']*")
 TOP = re.compile(r"^(?:(?:pub|abbrev|unfoldable|pick|syntax) )*(\S+) :(?: (.*))?$")
-HEAD = re.compile(r"^(?:pub )?(?:record|data) (\S+)")
+HEAD = re.compile(r"^(?:pub )?(record|data|module) (\S+)")
 FIELD = re.compile(r"^ +(?:pub )?(\S+) :(?: (.*))?$")
 OLD_CRATE, NEW_CRATE = "bytes", "byte_numbers"
 
@@ -41,13 +41,14 @@ def is_made(type_):
 
 
 def declared(text):
-    """The names that a file declares: at its top, and as fields and constructors."""
+    """The names that a file declares: at its top, in modules without a name, and as fields and constructors."""
     inside = False
     for line in text.split("\n"):
         head = HEAD.match(line)
         if head:
             inside = True
-            yield head.group(1)
+            if head.group(1) != "module":
+                yield head.group(2)
             continue
         if line and not line.startswith(" "):
             inside = False

@@ -12,8 +12,8 @@ use Rattle.network.specs.Promise.{Narrow, Came, BothSure}
 use Rattle.network.proofs.Beginnings.{begins_length}
 use Rattle.network.proofs.OnePeer.{Grows}
 use Rattle.network.proofs.Halves.{Half, written_length, joined_least}
-use Rattle.network.proofs.Networks.{Inv, across, all-taken, inv-turn, inv-turns, inv-network}
-use Rattle.network.proofs.Rows.{turns-append, handed-there, later-turns, grown}
+use Rattle.network.proofs.Networks.{Inv, across, all_taken, inv_turn, inv_turns, inv_network}
+use Rattle.network.proofs.Rows.{turns_append, handed_there, later_turns, grown}
 
 peer_there : (n : Network) (seat : Seat) (log : Log) → peer_at (with_peer n seat log) seat ≡ log
 peer_there n Left log = refl
@@ -48,17 +48,17 @@ module _ (fits : ℕ → Bool) (window : ℕ) (narrow : Narrow fits) (small : wi
       let n2 : Network = turns fits window n1 between in
       let to : Log = peer_at n2 (facing seat) in
       let ms : List Message = packets_to n2 (facing seat) in
-      let since = (later-turns fits window n1 between (facing seat)).1 in
+      let since = (later_turns fits window n1 between (facing seat)).1 in
       let put : packets_to n1 (facing seat) ≡ old ++ p ∷ [] = packets_there n (facing seat) p in
       let len : k < length (packets_to n1 (facing seat)) = omega (arith, ap length put, length_push old p) in
       let there : k < length ms = omega (arith, begins_length (packets_to n1 (facing seat)) ms since) in
       let is : get_or ms k p ≡ p =
       front_reads p ms (packets_to n1 (facing seat)) since.0 since.1 k len ∙ ap (λ l. get_or l k p) put ∙ get_or_push old p p k refl in
-      let all = all-taken window n2 (inv-turns fits window narrow n1 between (inv-turn fits window narrow n sent i)) (facing seat) in
+      let all = all_taken window n2 (inv_turns fits window narrow n1 between (inv_turn fits window narrow n sent i)) (facing seat) in
       let read : reading (length to.own) (message_bytes p) ≡ Ok p =
       subst (λ x. reading (length to.own) (message_bytes x) ≡ Ok x) is (All-get_or _ ms k p there all) in
       let got : peer_at (with_peer n2 (facing seat) (handed fits window to ms k)) (facing seat) ≡ heard to (Ok p) =
-      peer_there n2 (facing seat) _ ∙ handed-there fits window to ms k p there ∙ ap (λ x. event fits window to (arrival (message_bytes x))) is ∙ ap (heard to) read in
+      peer_there n2 (facing seat) _ ∙ handed_there fits window to ms k p there ∙ ap (λ x. event fits window to (arrival (message_bytes x))) is ∙ ap (heard to) read in
       subst (λ l. m ≤ length l.other) (sym got)
       (joins window m w (peer_at n (facing seat)) to (packets_to n seat) old small (i seat) (across window n i seat) (grown fits window n (sent ∷ between) (facing seat)) made)
 
@@ -72,11 +72,11 @@ module _ (fits : ℕ → Bool) (window : ℕ) (narrow : Narrow fits) (small : wi
       let n1 : Network = turn fits window n sent in
       let n3 : Network = turn fits window (turns fits window n1 c.between) got in
       let whole : network fits window ts ≡ turns fits window n (sent ∷ (c.between ++ got ∷ c.after)) =
-      ap (network fits window) c.so ∙ turns-append fits window new_network c.before _ in
-      let end : network fits window ts ≡ turns fits window n3 c.after = whole ∙ turns-append fits window n1 c.between (got ∷ c.after) in
+      ap (network fits window) c.so ∙ turns_append fits window new_network c.before _ in
+      let end : network fits window ts ≡ turns fits window n3 c.after = whole ∙ turns_append fits window n1 c.between (got ∷ c.after) in
       let own = begins_length _ _ (grown fits window n (sent ∷ (c.between ++ got ∷ c.after)) seat).own in
       let other = begins_length _ _ (grown fits window n3 c.after (facing seat)).other in
-      let came = arrives n seat c.between (inv-network fits window narrow c.before) c.made in (
+      let came = arrives n seat c.between (inv_network fits window narrow c.before) c.made in (
         subst (λ x. m ≤ length (peer_at x seat).own) (sym whole) (omega (arith, c.made)),
         subst (λ x. m ≤ length (peer_at x (facing seat)).other) (sym end) (omega arith),
       )

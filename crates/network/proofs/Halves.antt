@@ -1,6 +1,6 @@
 -- A peer and the packets written to it, beside the peer that wrote them: what every turn keeps. Assumes nothing.
 use Rattle.std.proofs.Common.{◌≡◌, ℕ, ◌+◌, ◌-◌, ◌≤◌, min, max, Bool, true, ltb, leb, List, [], ◌∷◌, ◌++◌, length, drop, Ok, sym, refl, subst, arith, length-append, length-drop, length-take}
-use Rattle.std.specs.List.{AllByRecursion as All}
+use Rattle.std.specs.List.{AllByRecursion}
 use Rattle.std.proofs.ByRecursion.{All-push, All-take, All-drop, All-weaker}
 use Rattle.std.proofs.lemmas.List.{length_push}
 use Rattle.std.proofs.lemmas.Bool.{cond_both, and_from, le-leb, ltb-false}
@@ -12,7 +12,7 @@ use Rattle.peer.specs.Peers.{Log, tick, arrival, joined, heard, event}
 use Rattle.network.specs.Network.{written}
 use Rattle.network.specs.Promise.{Begins, Narrow}
 use Rattle.network.proofs.Beginnings.{begins_trans, begins_length, begins_drop, begins_join, take_begins}
-use Rattle.network.proofs.OnePeer.{Grows, by-tick, joined_grows}
+use Rattle.network.proofs.OnePeer.{Grows, by_tick, joined_grows}
 
 -- ---- inputs of a packet that join on
 
@@ -38,7 +38,7 @@ pub record Fair (window : ℕ) (log : Log) (m : Message) : Type 0 where
   pub part : Begins m.inputs (drop m.first log.own)
   pub made : m.first + length m.inputs ≤ length log.own
   pub few : length m.inputs ≤ 120
-  pub fit : All (λ a. a ≤ 15) m.inputs
+  pub fit : AllByRecursion (λ a. a ≤ 15) m.inputs
   pub known : m.ack ≤ length log.other
   pub near : m.first + length m.inputs ≤ m.ack + window
 
@@ -54,17 +54,17 @@ pub record Half (window : ℕ) (me you : Log) (ms : List Message) : Type 0 where
   pub near : length me.own ≤ length me.other + window
   pub heard : length me.other ≤ me.acked + window
   pub known : me.acked ≤ length you.other
-  pub fit : All (λ a. a ≤ 15) me.own
+  pub fit : AllByRecursion (λ a. a ≤ 15) me.own
   pub few : length me.own ≤ 1000000
-  pub packets : All (Fair window you) ms
+  pub packets : AllByRecursion (Fair window you) ms
 
-all_fit : (xs : List ℕ) → All (λ a. a ≤ 15) xs → inputs_fit xs ≡ true
+all_fit : (xs : List ℕ) → AllByRecursion (λ a. a ≤ 15) xs → inputs_fit xs ≡ true
 all_fit [] h = refl
 all_fit (x ∷ xs) h = and_from (leb x 15) (inputs_fit xs) (le-leb x 15 h.0) (all_fit xs h.1)
 
 module _ (window : ℕ) where
-  fair-grows : (log to : Log) → Grows log to → (m : Message) → Fair window log m → Fair window to m
-  fair-grows log to g m f =
+  fair_grows : (log to : Log) → Grows log to → (m : Message) → Fair window log m → Fair window to m
+  fair_grows log to g m f =
       record {
         part = begins_trans m.inputs (drop m.first log.own) (drop m.first to.own) f.part (begins_drop m.first log.own to.own g.own);
         made = omega (arith, begins_length log.own to.own g.own);
@@ -74,9 +74,9 @@ module _ (window : ℕ) where
         near = f.near;
       }
 
-  pub fair-written : (log : Log) (from n : ℕ) → length log.own ≤ length log.other + window → All (λ a. a ≤ 15) log.own → Fair window log (written log from n)
+  pub fair_written : (log : Log) (from n : ℕ) → length log.own ≤ length log.other + window → AllByRecursion (λ a. a ≤ 15) log.own → Fair window log (written log from n)
   unfolding written
-  fair-written log from n near fit =
+  fair_written log from n near fit =
       let k : ℕ = min from (length log.own) in
       let len = written_length log from n in
       record {
@@ -89,8 +89,8 @@ module _ (window : ℕ) where
       }
 
   -- `you` goes on
-  pub half-beside : (me you to : Log) (ms : List Message) → Grows you to → Half window me you ms → Half window me to ms
-  half-beside me you to ms g h =
+  pub half_beside : (me you to : Log) (ms : List Message) → Grows you to → Half window me you ms → Half window me to ms
+  half_beside me you to ms g h =
       record {
         begins = begins_trans me.other you.own to.own h.begins g.own;
         near = h.near;
@@ -98,12 +98,12 @@ module _ (window : ℕ) where
         known = omega (arith, begins_length you.other to.other g.other);
         fit = h.fit;
         few = h.few;
-        packets = All-weaker (Fair window you) (Fair window to) (fair-grows you to g) ms h.packets;
+        packets = All-weaker (Fair window you) (Fair window to) (fair_grows you to g) ms h.packets;
       }
 
   -- `you` writes a packet
-  pub half-packet : (me you : Log) (ms : List Message) (m : Message) → Fair window you m → Half window me you ms → Half window me you (ms ++ m ∷ [])
-  half-packet me you ms m f h =
+  pub half_packet : (me you : Log) (ms : List Message) (m : Message) → Fair window you m → Half window me you ms → Half window me you (ms ++ m ∷ [])
+  half_packet me you ms m f h =
       record {
         begins = h.begins;
         near = h.near;
@@ -115,9 +115,9 @@ module _ (window : ℕ) where
       }
 
   -- a frame's time at `me`
-  pub half-tick : (fits : ℕ → Bool) (me you : Log) (ms : List Message) (a : ℕ) → Narrow fits → Half window me you ms → Half window (event fits window me (tick a)) you ms
-  half-tick fits me you ms a narrow h =
-      by-tick fits window me a (λ to. Half window to you ms) h
+  pub half_tick : (fits : ℕ → Bool) (me you : Log) (ms : List Message) (a : ℕ) → Narrow fits → Half window me you ms → Half window (event fits window me (tick a)) you ms
+  half_tick fits me you ms a narrow h =
+      by_tick fits window me a (λ to. Half window to you ms) h
       (λ ok few near. record {
         begins = h.begins;
         near = omega (arith, length_push me.own a);
@@ -137,9 +137,9 @@ module _ (window : ℕ) where
       written_read (length me.own) m (omega (arith, h.few)) proper
 
   -- and comes to `me`
-  pub half-arrival : (fits : ℕ → Bool) (me you : Log) (ms back : List Message) → Half window me you ms → Half window you me back → (m : Message) → Fair window you m → Half window (event fits window me (arrival (message_bytes m))) you ms
+  pub half_arrival : (fits : ℕ → Bool) (me you : Log) (ms back : List Message) → Half window me you ms → Half window you me back → (m : Message) → Fair window you m → Half window (event fits window me (arrival (message_bytes m))) you ms
   unfolding event
-  half-arrival fits me you ms back h b m f =
+  half_arrival fits me you ms back h b m f =
       subst (λ r. Half window (heard me r) you ms) (sym (taken me you ms back h b m f))
       (record {
         begins = joined_begins you.own me.other m h.begins f.part;

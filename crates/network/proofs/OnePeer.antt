@@ -36,9 +36,9 @@ module _ (fits : ℕ → Bool) (window : ℕ) where
   -- ---- one event
 
   -- what a tick leaves, by cases
-  pub by-tick : (log : Log) (a : ℕ) (P : Log → Type 0) → P log → (fits a ≡ true → length log.own < 1000000 → length log.own < length log.other + window → P (record { own = log.own ++ a ∷ []; other = log.other; acked = log.acked })) → P (event fits window log (tick a))
+  pub by_tick : (log : Log) (a : ℕ) (P : Log → Type 0) → P log → (fits a ≡ true → length log.own < 1000000 → length log.own < length log.other + window → P (record { own = log.own ++ a ∷ []; other = log.other; acked = log.acked })) → P (event fits window log (tick a))
   unfolding event
-  by-tick log a P same more =
+  by_tick log a P same more =
       cond_both (fits a && goes_on window log) (record { own = log.own ++ a ∷ []; other = log.other; acked = log.acked }) log P
       (λ e.
       let p = and_parts (fits a) (goes_on window log) e in
@@ -47,54 +47,54 @@ module _ (fits : ℕ → Bool) (window : ℕ) where
       (λ _. same)
 
   -- and bytes that came
-  pub by-arrival : (log : Log) (xs : List ℕ) (P : Log → Type 0) → P log → ((m : Message) → reading (length log.own) xs ≡ Ok m → P (heard log (Ok m))) → P (event fits window log (arrival xs))
+  pub by_arrival : (log : Log) (xs : List ℕ) (P : Log → Type 0) → P log → ((m : Message) → reading (length log.own) xs ≡ Ok m → P (heard log (Ok m))) → P (event fits window log (arrival xs))
   unfolding event
-  by-arrival log xs P same more = by (reading (length log.own) xs) refl
+  by_arrival log xs P same more = by (reading (length log.own) xs) refl
     where
       by : (r : Result Message Fault) → reading (length log.own) xs ≡ r → P (heard log r)
       by (Ok m) e = more m e
       by (Err f) e = same
 
-  pub event-grows : (log : Log) (e : Event) → Grows log (event fits window log e)
-  event-grows log (tick a) =
-      by-tick log a (Grows log) (grows_refl log) (λ _ _ _. record { own = begins_more log.own (a ∷ []); other = begins_refl log.other })
-  event-grows log (arrival xs) =
-      by-arrival log xs (Grows log) (grows_refl log) (λ m _. record { own = begins_refl log.own; other = joined_grows log.other m })
+  pub event_grows : (log : Log) (e : Event) → Grows log (event fits window log e)
+  event_grows log (tick a) =
+      by_tick log a (Grows log) (grows_refl log) (λ _ _ _. record { own = begins_more log.own (a ∷ []); other = begins_refl log.other })
+  event_grows log (arrival xs) =
+      by_arrival log xs (Grows log) (grows_refl log) (λ m _. record { own = begins_refl log.own; other = joined_grows log.other m })
 
-  arrival-own : (log : Log) (xs : List ℕ) → (event fits window log (arrival xs)).own ≡ log.own
-  arrival-own log xs = by-arrival log xs (λ to. to.own ≡ log.own) refl (λ _ _. refl)
+  arrival_own : (log : Log) (xs : List ℕ) → (event fits window log (arrival xs)).own ≡ log.own
+  arrival_own log xs = by_arrival log xs (λ to. to.own ≡ log.own) refl (λ _ _. refl)
 
-  near-event : (log : Log) (e : Event) → length log.own ≤ length log.other + window → length (event fits window log e).own ≤ length (event fits window log e).other + window
-  near-event log (tick a) p =
-      by-tick log a (λ to. length to.own ≤ length to.other + window) p (λ _ _ h. omega (arith, length_push log.own a))
-  near-event log (arrival xs) p =
-      by-arrival log xs (λ to. length to.own ≤ length to.other + window) p
+  near_event : (log : Log) (e : Event) → length log.own ≤ length log.other + window → length (event fits window log e).own ≤ length (event fits window log e).other + window
+  near_event log (tick a) p =
+      by_tick log a (λ to. length to.own ≤ length to.other + window) p (λ _ _ h. omega (arith, length_push log.own a))
+  near_event log (arrival xs) p =
+      by_arrival log xs (λ to. length to.own ≤ length to.other + window) p
       (λ m _. omega (arith, begins_length log.other (joined log.other m) (joined_grows log.other m)))
 
-  acked-event : (log : Log) (e : Event) → log.acked ≤ length log.own → (event fits window log e).acked ≤ length (event fits window log e).own
-  acked-event log (tick a) p = by-tick log a (λ to. to.acked ≤ length to.own) p (λ _ _ _. omega (arith, length_push log.own a))
-  acked-event log (arrival xs) p =
-      by-arrival log xs (λ to. to.acked ≤ length to.own) p (λ m e. omega (arith, read_known (length log.own) xs m e))
+  acked_event : (log : Log) (e : Event) → log.acked ≤ length log.own → (event fits window log e).acked ≤ length (event fits window log e).own
+  acked_event log (tick a) p = by_tick log a (λ to. to.acked ≤ length to.own) p (λ _ _ _. omega (arith, length_push log.own a))
+  acked_event log (arrival xs) p =
+      by_arrival log xs (λ to. to.acked ≤ length to.own) p (λ m e. omega (arith, read_known (length log.own) xs m e))
 
   -- ---- a row of events
 
-  pub run-grows : (log : Log) (es : List Event) → Grows log (run fits window log es)
+  pub run_grows : (log : Log) (es : List Event) → Grows log (run fits window log es)
   unfolding run
-  run-grows log [] = grows_refl log
-  run-grows log (e ∷ es) =
-      let p : Grows log (event fits window log e) = event-grows log e in
-      let q : Grows (event fits window log e) (run fits window (event fits window log e) es) = run-grows (event fits window log e) es in
+  run_grows log [] = grows_refl log
+  run_grows log (e ∷ es) =
+      let p : Grows log (event fits window log e) = event_grows log e in
+      let q : Grows (event fits window log e) (run fits window (event fits window log e) es) = run_grows (event fits window log e) es in
       record { own = begins_trans _ _ _ p.own q.own; other = begins_trans _ _ _ p.other q.other }
 
-  pub near-run : (log : Log) (es : List Event) → length log.own ≤ length log.other + window → length (run fits window log es).own ≤ length (run fits window log es).other + window
+  pub near_run : (log : Log) (es : List Event) → length log.own ≤ length log.other + window → length (run fits window log es).own ≤ length (run fits window log es).other + window
   unfolding run
-  near-run log [] p = p
-  near-run log (e ∷ es) p = near-run (event fits window log e) es (near-event log e p)
+  near_run log [] p = p
+  near_run log (e ∷ es) p = near_run (event fits window log e) es (near_event log e p)
 
-  pub acked-run : (log : Log) (es : List Event) → log.acked ≤ length log.own → (run fits window log es).acked ≤ length (run fits window log es).own
+  pub acked_run : (log : Log) (es : List Event) → log.acked ≤ length log.own → (run fits window log es).acked ≤ length (run fits window log es).own
   unfolding run
-  acked-run log [] p = p
-  acked-run log (e ∷ es) p = acked-run (event fits window log e) es (acked-event log e p)
+  acked_run log [] p = p
+  acked_run log (e ∷ es) p = acked_run (event fits window log e) es (acked_event log e p)
 
 -- ---- what is confirmed, shown and sent
 
@@ -106,7 +106,7 @@ confirmed_same g Right log to k p q = ap₂ (plays g g.start) q p
 pub stays_sure : (S : Type 0) → StaysSure S
 stays_sure S g seat fits window log es =
     let to : Log = run fits window log es in
-    let p : Grows log to = run-grows fits window log es in
+    let p : Grows log to = run_grows fits window log es in
     let own : length log.own ≤ length to.own = begins_length log.own to.own p.own in
     let other : length log.other ≤ length to.other = begins_length log.other to.other p.other in (
       omega arith,
@@ -119,12 +119,12 @@ stays_sure S g seat fits window log es =
 
 pub guessed : (S : Type 0) → Guessed S
 unfolding shows
-guessed S g Left fits window log xs e = ap₂ (plays g g.start) (arrival-own fits window log xs) (sym e)
-guessed S g Right fits window log xs e = ap₂ (plays g g.start) (sym e) (arrival-own fits window log xs)
+guessed S g Left fits window log xs e = ap₂ (plays g g.start) (arrival_own fits window log xs) (sym e)
+guessed S g Right fits window log xs e = ap₂ (plays g g.start) (sym e) (arrival_own fits window log xs)
 
 pub sends_is : (log : Log) → log.acked ≤ length log.own → sends log ≡ written log log.acked 120
 unfolding written
 sends_is log h = let e : min log.acked (length log.own) ≡ log.acked = omega arith in rw e
 
 pub sends_written : SendsWritten
-sends_written fits window es = sends_is (run fits window new_log es) (acked-run fits window new_log es (omega arith))
+sends_written fits window es = sends_is (run fits window new_log es) (acked_run fits window new_log es (omega arith))

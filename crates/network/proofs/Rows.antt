@@ -1,6 +1,6 @@
 -- Rows of turns: what happens at each seat. Assumes nothing.
 use Rattle.std.proofs.Common.{◌≡◌, ℕ, zero, suc, ◌+◌, ◌<◌, ◌≤◌, Bool, List, [], ◌∷◌, ◌++◌, length, get_or, sym, refl, ap, ◌∙◌, subst, arith}
-use Rattle.std.specs.List.{AllByRecursion as All}
+use Rattle.std.specs.List.{AllByRecursion}
 use Rattle.game.specs.declared.seat.Seat.{Seat}
 use Rattle.game.specs.declared.seat.Seat.TheVariants.{Left, Right}
 use Rattle.packet.specs.Wire.{Message, message_bytes}
@@ -8,40 +8,40 @@ use Rattle.peer.specs.Peers.{Log, Event, arrival, new_log, event, run}
 use Rattle.network.specs.Network.{Network, Turn, tick, send, deliver, facing, peer_at, packets_to, with_peer, with_packet, written, handed, turn, turns, new_network}
 use Rattle.network.specs.Promise.{Begins, PeersRun, NotFar}
 use Rattle.network.proofs.Beginnings.{begins_refl, begins_more, begins_trans}
-use Rattle.network.proofs.OnePeer.{Grows, run-grows, near-run}
+use Rattle.network.proofs.OnePeer.{Grows, run_grows, near_run}
 
 module _ (fits : ℕ → Bool) (window : ℕ) where
   -- ---- one row after another
 
-  pub turns-append : (n : Network) (ts us : List Turn) → turns fits window n (ts ++ us) ≡ turns fits window (turns fits window n ts) us
+  pub turns_append : (n : Network) (ts us : List Turn) → turns fits window n (ts ++ us) ≡ turns fits window (turns fits window n ts) us
   unfolding turns
-  turns-append n [] us = refl
-  turns-append n (t ∷ ts) us = turns-append (turn fits window n t) ts us
+  turns_append n [] us = refl
+  turns_append n (t ∷ ts) us = turns_append (turn fits window n t) ts us
 
-  pub turns-push : (n : Network) (ts : List Turn) (t : Turn) → turns fits window n (ts ++ t ∷ []) ≡ turn fits window (turns fits window n ts) t
+  pub turns_push : (n : Network) (ts : List Turn) (t : Turn) → turns fits window n (ts ++ t ∷ []) ≡ turn fits window (turns fits window n ts) t
   unfolding turns
-  turns-push n ts t = turns-append n ts (t ∷ [])
+  turns_push n ts t = turns_append n ts (t ∷ [])
 
   -- ---- a packet that is handed over
 
-  pub handed-there : (log : Log) (ms : List Message) (k : ℕ) (d : Message) → k < length ms → handed fits window log ms k ≡ event fits window log (arrival (message_bytes (get_or ms k d)))
+  pub handed_there : (log : Log) (ms : List Message) (k : ℕ) (d : Message) → k < length ms → handed fits window log ms k ≡ event fits window log (arrival (message_bytes (get_or ms k d)))
   unfolding handed
-  handed-there log [] k d h = let no : ⊥ = omega arith in absurd no
-  handed-there log (m ∷ ms) zero d h = refl
-  handed-there log (m ∷ ms) (suc k) d h = handed-there log ms k d (omega arith)
+  handed_there log [] k d h = let no : ⊥ = omega arith in absurd no
+  handed_there log (m ∷ ms) zero d h = refl
+  handed_there log (m ∷ ms) (suc k) d h = handed_there log ms k d (omega arith)
 
-  pub handed-past : (log : Log) (ms : List Message) (k : ℕ) → length ms ≤ k → handed fits window log ms k ≡ log
+  pub handed_past : (log : Log) (ms : List Message) (k : ℕ) → length ms ≤ k → handed fits window log ms k ≡ log
   unfolding handed
-  handed-past log [] k h = refl
-  handed-past log (m ∷ ms) zero h = let no : ⊥ = omega arith in absurd no
-  handed-past log (m ∷ ms) (suc k) h = handed-past log ms k (omega arith)
+  handed_past log [] k h = refl
+  handed_past log (m ∷ ms) zero h = let no : ⊥ = omega arith in absurd no
+  handed_past log (m ∷ ms) (suc k) h = handed_past log ms k (omega arith)
 
   -- by cases
-  pub by-handed : (log : Log) (ms : List Message) (k : ℕ) (P : Log → Type 0) → P log → All (λ m. P (event fits window log (arrival (message_bytes m)))) ms → P (handed fits window log ms k)
+  pub by_handed : (log : Log) (ms : List Message) (k : ℕ) (P : Log → Type 0) → P log → AllByRecursion (λ m. P (event fits window log (arrival (message_bytes m)))) ms → P (handed fits window log ms k)
   unfolding handed
-  by-handed log [] k P p a = p
-  by-handed log (m ∷ ms) zero P p a = a.0
-  by-handed log (m ∷ ms) (suc k) P p a = by-handed log ms k P p a.1
+  by_handed log [] k P p a = p
+  by_handed log (m ∷ ms) zero P p a = a.0
+  by_handed log (m ∷ ms) (suc k) P p a = by_handed log ms k P p a.1
 
   -- ---- events at one peer
 
@@ -49,30 +49,30 @@ module _ (fits : ℕ → Bool) (window : ℕ) where
   abbrev pub Ran : Log → Log → Type 0
   Ran log to = (es : List Event) × (to ≡ run fits window log es)
 
-  run-append : (log : Log) (es fs : List Event) → run fits window log (es ++ fs) ≡ run fits window (run fits window log es) fs
+  run_append : (log : Log) (es fs : List Event) → run fits window log (es ++ fs) ≡ run fits window (run fits window log es) fs
   unfolding run
-  run-append log [] fs = refl
-  run-append log (e ∷ es) fs = run-append (event fits window log e) es fs
+  run_append log [] fs = refl
+  run_append log (e ∷ es) fs = run_append (event fits window log e) es fs
 
-  ran-none : (log : Log) → Ran log log
+  ran_none : (log : Log) → Ran log log
   unfolding run
-  ran-none log = ([], refl)
+  ran_none log = ([], refl)
 
-  ran-event : (log : Log) (e : Event) → Ran log (event fits window log e)
+  ran_event : (log : Log) (e : Event) → Ran log (event fits window log e)
   unfolding run
-  ran-event log e = (e ∷ [], refl)
+  ran_event log e = (e ∷ [], refl)
 
-  ran-trans : (log to end : Log) → Ran log to → Ran to end → Ran log end
-  ran-trans log to end p q = (p.0 ++ q.0, q.1 ∙ ap (λ l. run fits window l q.0) p.1 ∙ sym (run-append log p.0 q.0))
+  ran_trans : (log to end : Log) → Ran log to → Ran to end → Ran log end
+  ran_trans log to end p q = (p.0 ++ q.0, q.1 ∙ ap (λ l. run fits window l q.0) p.1 ∙ sym (run_append log p.0 q.0))
 
-  pub ran-handed : (log : Log) (ms : List Message) (k : ℕ) → Ran log (handed fits window log ms k)
+  pub ran_handed : (log : Log) (ms : List Message) (k : ℕ) → Ran log (handed fits window log ms k)
   unfolding handed
-  ran-handed log [] k = ran-none log
-  ran-handed log (m ∷ ms) zero = ran-event log (arrival (message_bytes m))
-  ran-handed log (m ∷ ms) (suc k) = ran-handed log ms k
+  ran_handed log [] k = ran_none log
+  ran_handed log (m ∷ ms) zero = ran_event log (arrival (message_bytes m))
+  ran_handed log (m ∷ ms) (suc k) = ran_handed log ms k
 
-  pub ran-grows : (log to : Log) → Ran log to → Grows log to
-  ran-grows log to p = subst (Grows log) (sym p.1) (run-grows fits window log p.0)
+  pub ran_grows : (log to : Log) → Ran log to → Grows log to
+  ran_grows log to p = subst (Grows log) (sym p.1) (run_grows fits window log p.0)
 
   -- ---- a network that has gone on from another
 
@@ -80,44 +80,44 @@ module _ (fits : ℕ → Bool) (window : ℕ) where
   abbrev pub Later : Network → Network → Seat → Type 0
   Later n to seat = Ran (peer_at n seat) (peer_at to seat) × Begins (packets_to n seat) (packets_to to seat)
 
-  later-none : (n : Network) (seat : Seat) → Later n n seat
-  later-none n seat = (ran-none (peer_at n seat), begins_refl (packets_to n seat))
+  later_none : (n : Network) (seat : Seat) → Later n n seat
+  later_none n seat = (ran_none (peer_at n seat), begins_refl (packets_to n seat))
 
-  later-peer : (n : Network) (at : Seat) (log : Log) → Ran (peer_at n at) log → (seat : Seat) → Later n (with_peer n at log) seat
-  later-peer n Left log p Left = (p, begins_refl n.to_left)
-  later-peer n Left log p Right = later-none n Right
-  later-peer n Right log p Left = later-none n Left
-  later-peer n Right log p Right = (p, begins_refl n.to_right)
+  later_peer : (n : Network) (at : Seat) (log : Log) → Ran (peer_at n at) log → (seat : Seat) → Later n (with_peer n at log) seat
+  later_peer n Left log p Left = (p, begins_refl n.to_left)
+  later_peer n Left log p Right = later_none n Right
+  later_peer n Right log p Left = later_none n Left
+  later_peer n Right log p Right = (p, begins_refl n.to_right)
 
-  later-packet : (n : Network) (at : Seat) (m : Message) (seat : Seat) → Later n (with_packet n at m) seat
-  later-packet n Left m Left = (ran-none n.left, begins_more n.to_left (m ∷ []))
-  later-packet n Left m Right = later-none n Right
-  later-packet n Right m Left = later-none n Left
-  later-packet n Right m Right = (ran-none n.right, begins_more n.to_right (m ∷ []))
+  later_packet : (n : Network) (at : Seat) (m : Message) (seat : Seat) → Later n (with_packet n at m) seat
+  later_packet n Left m Left = (ran_none n.left, begins_more n.to_left (m ∷ []))
+  later_packet n Left m Right = later_none n Right
+  later_packet n Right m Left = later_none n Left
+  later_packet n Right m Right = (ran_none n.right, begins_more n.to_right (m ∷ []))
 
-  pub later-turn : (n : Network) (t : Turn) (seat : Seat) → Later n (turn fits window n t) seat
+  pub later_turn : (n : Network) (t : Turn) (seat : Seat) → Later n (turn fits window n t) seat
   unfolding turn
-  later-turn n (tick at a) = later-peer n at _ (ran-event (peer_at n at) (Event.tick a))
-  later-turn n (send at from k) = later-packet n (facing at) (written (peer_at n at) from k)
-  later-turn n (deliver at k) = later-peer n at _ (ran-handed (peer_at n at) (packets_to n at) k)
+  later_turn n (tick at a) = later_peer n at _ (ran_event (peer_at n at) (Event.tick a))
+  later_turn n (send at from k) = later_packet n (facing at) (written (peer_at n at) from k)
+  later_turn n (deliver at k) = later_peer n at _ (ran_handed (peer_at n at) (packets_to n at) k)
 
-  pub later-turns : (n : Network) (ts : List Turn) (seat : Seat) → Later n (turns fits window n ts) seat
+  pub later_turns : (n : Network) (ts : List Turn) (seat : Seat) → Later n (turns fits window n ts) seat
   unfolding turns
-  later-turns n [] seat = later-none n seat
-  later-turns n (t ∷ ts) seat =
-      let p = later-turn n t seat in
-      let q = later-turns (turn fits window n t) ts seat in (ran-trans _ _ _ p.0 q.0, begins_trans _ _ _ p.1 q.1)
+  later_turns n [] seat = later_none n seat
+  later_turns n (t ∷ ts) seat =
+      let p = later_turn n t seat in
+      let q = later_turns (turn fits window n t) ts seat in (ran_trans _ _ _ p.0 q.0, begins_trans _ _ _ p.1 q.1)
 
   pub grown : (n : Network) (ts : List Turn) (seat : Seat) → Grows (peer_at n seat) (peer_at (turns fits window n ts) seat)
-  grown n ts seat = ran-grows (peer_at n seat) (peer_at (turns fits window n ts) seat) (later-turns n ts seat).0
+  grown n ts seat = ran_grows (peer_at n seat) (peer_at (turns fits window n ts) seat) (later_turns n ts seat).0
 
 -- ---- from the beginning
 
 pub peers_run : PeersRun
-peers_run fits window ts Left = (later-turns fits window new_network ts Left).0
-peers_run fits window ts Right = (later-turns fits window new_network ts Right).0
+peers_run fits window ts Left = (later_turns fits window new_network ts Left).0
+peers_run fits window ts Right = (later_turns fits window new_network ts Right).0
 
 pub not_far : NotFar
 not_far fits window ts seat =
     let r = peers_run fits window ts seat in
-    subst (λ log. length log.own ≤ length log.other + window) (sym r.1) (near-run fits window new_log r.0 (omega arith))
+    subst (λ log. length log.own ≤ length log.other + window) (sym r.1) (near_run fits window new_log r.0 (omega arith))

@@ -1,7 +1,7 @@
 -- What holds of two peers, whatever becomes of the packets between them. Assumes nothing: these are definitions,
 -- and statements that are proved in proofs/.
 use Rattle.std.specs.Prelude.{◌≡◌, ℕ, ◌+◌, ◌≤◌, Bool, true, List, ◌∷◌, ◌++◌, length, take, Ok}
-use Rattle.std.specs.List.{AllByRecursion as All}
+use Rattle.std.specs.List.{AllByRecursion}
 use Rattle.game.specs.Plain.{Game}
 use Rattle.game.specs.declared.seat.Seat.{Seat}
 use Rattle.game.specs.declared.seat.Seat.TheVariants.{Left, Right}
@@ -48,7 +48,7 @@ abbrev pub NoneRefused : Type 0
 NoneRefused =
     (fits : ℕ → Bool) (window : ℕ) (ts : List Turn) → Narrow fits →
     let n : Network = network fits window ts in
-    (seat : Seat) → All (λ m. reading (length (peer_at n seat).own) (message_bytes m) ≡ Ok m) (packets_to n seat)
+    (seat : Seat) → AllByRecursion (λ m. reading (length (peer_at n seat).own) (message_bytes m) ≡ Ok m) (packets_to n seat)
 
 -- each is a peer to which a row of events happened: what holds of a peer after every row of events holds of both
 abbrev pub PeersRun : Type 0

@@ -61,18 +61,18 @@ module _ (own : ℕ) (m : Message) (small : own < 2 ^ 32) (h : Proper own m) whe
   first_read : first_in (message_bytes m) ≡ m.first
   first_read = number_little 4 m.first (omega arith)
 
-  ack-read : ack_in (message_bytes m) ≡ m.ack
-  ack-read = number_little 4 m.ack (omega arith)
+  ack_read : ack_in (message_bytes m) ≡ m.ack
+  ack_read = number_little 4 m.ack (omega arith)
 
   inputs_read : inputs_in (message_bytes m) ≡ m.inputs
   inputs_read = take_all (length m.inputs) m.inputs (omega arith)
 
-  written-starts : Started (message_bytes m)
-  written-starts = let e = first_read in record { long = omega arith; mark = refl; whole = omega arith; few = h.few }
+  written_starts : Started (message_bytes m)
+  written_starts = let e = first_read in record { long = omega arith; mark = refl; whole = omega arith; few = h.few }
 
-  written-ends : Ended own (message_bytes m)
-  written-ends =
-      let e = ack-read in
+  written_ends : Ended own (message_bytes m)
+  written_ends =
+      let e = ack_read in
       let n = ap length inputs_read in
       let b = ap first_bad inputs_read in
       let f = bad_from_fit m.inputs h.fit in
@@ -82,10 +82,10 @@ pub written_read : WrittenRead
 written_read own m small h =
     let mk : ℕ → List ℕ → ℕ → Result Message Fault = λ f is a. Ok (record { first = f; inputs = is; ack = a }) in
     let xs : List ℕ = message_bytes m in
-    all_right own xs (starts xs (written-starts own m small h)) (ends own xs (written-ends own m small h))
+    all_right own xs (starts xs (written_starts own m small h)) (ends own xs (written_ends own m small h))
     ∙ ap (λ f. mk f (inputs_in xs) (ack_in xs)) (first_read own m small h)
     ∙ ap (λ is. mk m.first is (ack_in xs)) (inputs_read own m small h)
-    ∙ ap (mk m.first m.inputs) (ack-read own m small h)
+    ∙ ap (mk m.first m.inputs) (ack_read own m small h)
 
 -- ---- what was taken
 

@@ -2,13 +2,15 @@ use court_game::plain::play;
 use game::seat::Seat;
 use session::Happening;
 use session::whole::play_session;
-use std::test::*;
+use std::alloc::AllocGlobal;
+use std::process::Abort;
+use std::test::Fail;
 
 const THREE_EIGHTS: [u8; 13] = [b'H', 0, 0, 0, 0, 3, 0, 0, 0, 0, 8, 8, 8];
 
 // The picture after a session is that of the plain game with these inputs, and the bytes behind it stay.
 fn check_picture(
-    rt: HostRuntime,
+    rt: &(impl Abort + AllocGlobal),
     seat: Seat,
     window: usize,
     events: &[Happening],
@@ -27,9 +29,9 @@ fn check_picture(
         shown.as_mut_slice(),
         events,
     );
-    assert!(done.is_ok());
-    assert!(picture::draw(play(left, right), plain.as_mut_slice()).is_ok());
-    assert_eq!(shown.as_slice(), plain.as_slice());
+    assert!(rt; done.is_ok());
+    assert!(rt; picture::draw(play(left, right), plain.as_mut_slice()).is_ok());
+    assert_eq!(rt; shown.as_slice(), plain.as_slice());
     Ok(())
 }
 
@@ -43,8 +45,8 @@ fn a_lost_tick_and_a_packet(rt: HostRuntime) -> Result<(), Fail> {
         Happening::Tick(1),
         Happening::Arrival(&THREE_EIGHTS),
     ];
-    check_picture(rt, Seat::Left, 3, &events[0..4], &[1; 3], &[0; 3])?;
-    check_picture(rt, Seat::Left, 3, &events, &[1; 3], &[8; 3])
+    check_picture(&rt, Seat::Left, 3, &events[0..4], &[1; 3], &[0; 3])?;
+    check_picture(&rt, Seat::Left, 3, &events, &[1; 3], &[8; 3])
 }
 
 // The other seat, with what is refused among the events.
@@ -61,7 +63,7 @@ fn wrong_events_change_nothing(rt: HostRuntime) -> Result<(), Fail> {
         Happening::Tick(4),
         Happening::Tick(4),
     ];
-    check_picture(rt, Seat::Right, 60, &events, &[8; 4], &[2, 4, 4, 4])
+    check_picture(&rt, Seat::Right, 60, &events, &[8; 4], &[2, 4, 4, 4])
 }
 
 // The number and the place that a session is refused with, by its window and the length of the lent picture; 0 and 0 where it begins.

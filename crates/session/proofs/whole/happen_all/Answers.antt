@@ -1,4 +1,4 @@
-use Rattle.std.proofs.Common.{◌≡◌, leb, List, map, sym, refl, subst, arith}
+use Rattle.std.proofs.Common.{leb, List, map, sym, refl, subst, arith}
 use Rattle.std.proofs.lemmas.List.{take_all}
 use Rattle.peer.specs.Lent.{log_of}
 use Rattle.peer.specs.Peers.{Log, run}
