@@ -1,4 +1,5 @@
 // Tests of the court and of its plain game.
+#![tactic(auto)]
 
 #[cfg(test)]
 mod frames;
