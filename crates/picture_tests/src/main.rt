@@ -1,6 +1,8 @@
 // Pictures of chosen states: how many dots of each kind, and a checksum of all bytes; one picture whole, as text.
 // What it must print was worked out from the rules, apart from this code.
 // Rests on court, court_game and picture.
+#![tactic(auto)]
+
 ghost use Rattle.std.specs.Prelude.{◌≤◌, pos, ◌-ℤ◌, ◌≤ℤ◌};
 ghost use Rattle.court.specs.Bounds.{PaddleIn};
 ghost use Rattle.court.specs.Frame.{court_width, paddle_half_x, left_most, right_least};

@@ -4,6 +4,8 @@
 //
 // FILE has a byte for each frame, seat 0's input and 16 times seat 1's, and at most 1,000,000 of them.
 // With `show` the picture of that state follows, as text.
+#![tactic(auto)]
+
 use anyhow::anyhow;
 use court::{Court, State};
 use court_game::plain::{MOST_FRAMES, Unplayed, play_frames};
