@@ -13,6 +13,7 @@ use picture::{LENGTH, Refused, draw, text_of};
 use std::env;
 use std::fs::File;
 use std::io::Read;
+use std::process::ExitCode;
 
 // The frames of a file; of one with too many, no more than show that.
 fn read_frames(rt: &HostRuntime, path: &str) -> anyhow::Result<Vec<u8>> {
@@ -87,10 +88,12 @@ fn run(rt: &HostRuntime) -> anyhow::Result<()> {
     Ok(())
 }
 
-fn main(rt: HostRuntime) -> anyhow::Result<()> {
-    let done = run(&rt);
-    if let Err(e) = &done {
-        eprintln!(rt; "{e}")?;
+fn main(rt: HostRuntime) -> ExitCode {
+    match run(&rt) {
+        Ok(()) => ExitCode::SUCCESS,
+        Err(e) => {
+            let _ = eprintln!(rt; "{e}");
+            ExitCode::FAILURE
+        }
     }
-    done
 }
