@@ -2,6 +2,8 @@
 //
 //     bench pictures COUNT     plays frames and draws the picture after each; prints the sum of one byte of every picture
 //     bench packets COUNT      reads packets of 0 to 120 inputs; prints the sum of some of what they say
+#![tactic(auto)]
+
 use anyhow::anyhow;
 use court::{Court, Input};
 use packet::Packet;
