@@ -9,6 +9,7 @@ use court::{Court, Input};
 use packet::Packet;
 use picture::{LENGTH, draw};
 use std::env;
+use std::process::ExitCode;
 
 fn input(n: u32) -> Input {
     Input((n % 16) as u8)
@@ -83,10 +84,10 @@ fn run(rt: &HostRuntime) -> anyhow::Result<()> {
     Ok(())
 }
 
-fn main(rt: HostRuntime) -> anyhow::Result<()> {
-    let done = run(&rt);
-    if let Err(e) = &done {
+fn main(rt: HostRuntime) -> anyhow::Result<ExitCode> {
+    if let Err(e) = run(&rt) {
         eprintln!(rt; "{e}")?;
+        return Ok(ExitCode::FAILURE);
     }
-    done
+    Ok(ExitCode::SUCCESS)
 }
