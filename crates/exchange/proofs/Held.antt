@@ -2,7 +2,8 @@
 use Rattle.std.proofs.Common.{◌≡◌, ℕ, ◌+◌, ◌<◌, ◌≤◌, Bool, true, false, cond, leb, List, [], ◌∷◌, ◌++◌, map, length, get_or, take, sym, refl, ap, ◌∙◌, subst, arith}
 use Rattle.std.proofs.lemmas.List.{take_more}
 use Rattle.std.proofs.lemmas.Bool.{leb-true}
-use Rattle.court_game.specs.Games.{court_rules, court_game}
+use Rattle.court_game.specs.Games.{court_game}
+use Rattle.court_game.specs.Saved.{court_saved}
 use Rattle.court.specs.declared.state.State.{State}
 use Rattle.game.specs.declared.seat.Seat.{Seat}
 use Rattle.game.specs.declared.seat.Seat.TheVariants.{Left, Right}
@@ -11,7 +12,7 @@ use Rattle.network.specs.Network as network
 use Rattle.network.specs.Promise.{Came}
 use Rattle.network.proofs.Arrivals.{both_sure}
 use Rattle.network.proofs.Networks.{same_inputs, one_game}
-use Rattle.network.proofs.Rows.{turns-push, not_far}
+use Rattle.network.proofs.Rows.{turns_push, not_far}
 use Rattle.packet.specs.Wire.{message_bytes}
 use Rattle.peer.specs.Lent.{log_of}
 use Rattle.peer.specs.Peers.{Log, tick, event, confirmed}
@@ -76,13 +77,13 @@ right_leaves window n (Deliver k) = (refl, refl)
 pub holds_left : (window : ℕ) (n : Network) (act : Act) (l k r : Memory) (tl tr ur : List Sent) → Holds window n l r tl tr → PeerAt window (acted window n Left act) Left k × PacketsAt (acted window n Left act) Right ur → Holds window (acted window n Left act) k r tl ur
 holds_left window n act l k r tl tr ur h did =
     let leaves = left_leaves window n act in
-    let P : Log → Type 0 = λ log. StandsFor court_rules Right window log r in
+    let P : Log → Type 0 = λ log. StandsFor court_saved Right window log r in
     record { left_at = did.0; right_at = subst P (sym leaves.0) h.right_at; left_packets = h.left_packets ∙ ap (map message_bytes) (sym leaves.1); right_packets = did.1 }
 
 pub holds_right : (window : ℕ) (n : Network) (act : Act) (l r k : Memory) (tl tr ul : List Sent) → Holds window n l r tl tr → PeerAt window (acted window n Right act) Right k × PacketsAt (acted window n Right act) Left ul → Holds window (acted window n Right act) l k ul tr
 holds_right window n act l r k tl tr ul h did =
     let leaves = right_leaves window n act in
-    let P : Log → Type 0 = λ log. StandsFor court_rules Left window log l in
+    let P : Log → Type 0 = λ log. StandsFor court_saved Left window log l in
     record { left_at = subst P (sym leaves.0) h.left_at; right_at = did.0; left_packets = did.1; right_packets = h.right_packets ∙ ap (map message_bytes) (sym leaves.1) }
 
 moves_push : (window : ℕ) (n : Network) (ms : List Move) (m : Move) → moves_on window n (ms ++ m ∷ []) ≡ acted window (moves_on window n ms) m.seat m.act
@@ -100,7 +101,7 @@ IsNetwork window n = (ts : List Turn) × (n ≡ court_network window ts)
 
 turned : (window : ℕ) (n : Network) (t : Turn) → IsNetwork window n → IsNetwork window (court_turn window n t)
 turned window n t i =
-    (i.0 ++ t ∷ [], ap (λ k. court_turn window k t) i.1 ∙ sym (turns-push (λ b. leb b 15) window new_network i.0 t))
+    (i.0 ++ t ∷ [], ap (λ k. court_turn window k t) i.1 ∙ sym (turns_push (λ b. leb b 15) window new_network i.0 t))
 
 acted_network : (window : ℕ) (n : Network) (seat : Seat) (act : Act) → IsNetwork window n → IsNetwork window (acted window n seat act)
 unfolding acted

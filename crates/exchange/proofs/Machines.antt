@@ -1,31 +1,30 @@
 -- One machine's moves, as turns of a network. Assumes nothing.
-use Rattle.std.proofs.Common.{◌≡◌, ℕ, ◌+◌, ◌*◌, ◌<◌, ◌≤◌, Bool, true, false, cond, ltb, leb, List, [], ◌∷◌, ◌++◌, map, length, get_or, take, drop, Some, None, Ok, Option, sym, refl, ap, ◌∙◌, subst, arith, length-append, length-take, le-ltb}
+use Rattle.std.proofs.Common.{◌≡◌, ℕ, ◌+◌, ◌*◌, ◌<◌, ◌≤◌, Bool, true, false, cond, ltb, leb, List, [], ◌∷◌, ◌++◌, map, length, get_or, take, drop, Some, None, Ok, sym, refl, ap, ◌∙◌, subst, arith, length-append, length-take, le-ltb}
 use Rattle.std.proofs.ByRecursion.{All-get_or}
 use Rattle.std.proofs.lemmas.List.{map_push, take_at, length-map, get_or-map}
 use Rattle.std.proofs.lemmas.Bool.{leb-true}
 use Rattle.byte_numbers.specs.Little.{little}
-use Rattle.court_game.specs.Games.{court_rules}
+use Rattle.court_game.specs.Saved.{court_saved}
 use Rattle.game.specs.declared.seat.Seat.{Seat}
 use Rattle.game.specs.declared.seat.Seat.TheVariants.{Left, Right}
 use Rattle.network.specs.Network.{Network, Turn, facing, peer_at, packets_to, with_peer, with_packet, written, handed, turn}
 use Rattle.network.specs.Network as network
 use Rattle.network.proofs.Networks.{none_refused}
 use Rattle.network.proofs.OnePeer.{sends_is}
-use Rattle.network.proofs.Rows.{handed-there, handed-past}
+use Rattle.network.proofs.Rows.{handed_there, handed_past}
 use Rattle.packet.specs.Wire.{Message, message_bytes, message_length, reading}
-use Rattle.peer.specs.declared.numbers.Peer.{Peer}
-use Rattle.peer.specs.declared.outcome.Outcome.{Outcome}
-use Rattle.peer.specs.declared.outcome.Outcome.TheVariants.{Taken, Lost, Refused}
+use Rattle.rollback.specs.declared.outcome.Outcome.{Outcome}
+use Rattle.rollback.specs.declared.outcome.Outcome.TheVariants.{Taken, Lost, Refused}
 use Rattle.peer.specs.declared.outcome.Refusal.{Refusal}
 use Rattle.peer.specs.declared.outcome.Refusal.TheVariants.{Input}
 use Rattle.peer.specs.Lent.{log_of}
 use Rattle.peer.specs.Peers.{Log, tick, arrival, event, goes_on, sends}
-use Rattle.peer.specs.Said.{said_tick, said_read, said_arrival}
+use Rattle.rollback.specs.Said.{said_tick, said_read, said_arrival}
 use Rattle.peer.proofs.Logs.{own_long}
 use Rattle.rollback.specs.Rows.{Memory, StandsFor}
-use Rattle.rollback.specs.Saved.{Roomy, Happened}
+use Rattle.rollback.specs.Saved.{Happened}
 use Rattle.rollback.proofs.Rowed.{stands_more}
-use Rattle.session.specs.Events.{said, writes, sent, packet_over}
+use Rattle.rollback_session.specs.Events.{said, writes, sent, packet_over}
 use Rattle.exchange.specs.declared.moves.Act.TheVariants.{Tick, Deliver}
 use Rattle.exchange.specs.declared.moves.Sent.{Sent}
 use Rattle.exchange.specs.Moves.{court_network, court_turn, sends_at, acted, sent_bytes, PeerAt, PacketsAt}
@@ -87,15 +86,15 @@ moved_peer window n seat a =
     ∙ ticked_peer window n seat a
 
 -- the memory of a machine whose time for a frame it was
-pub ticked_at : (window : ℕ) (n : Network) (seat : Seat) (a : ℕ) (m k : Memory) → PeerAt window n seat m → Happened court_rules m.peer m.inputs m.states (tick a) k.peer k.inputs k.states → PeerAt window (acted window n seat (Tick a)) seat k
+pub ticked_at : (window : ℕ) (n : Network) (seat : Seat) (a : ℕ) (m k : Memory) → PeerAt window n seat m → Happened court_saved m.peer m.inputs m.states (tick a) k.peer k.inputs k.states → PeerAt window (acted window n seat (Tick a)) seat k
 ticked_at window n seat a m k s h =
-    let P : Log → Type 0 = λ log. StandsFor court_rules seat window log k in
-    subst P (sym (moved_peer window n seat a)) (stands_more court_rules seat window (peer_at n seat) m k (tick a) s h)
+    let P : Log → Type 0 = λ log. StandsFor court_saved seat window log k in
+    subst P (sym (moved_peer window n seat a)) (stands_more court_saved seat window (peer_at n seat) m k (tick a) s h)
 
 -- ---- the packet that it wrote
 
 -- a peer was acknowledged no more than it made
-acked_few : (seat : Seat) (window : ℕ) (log : Log) (m : Memory) → StandsFor court_rules seat window log m → log.acked ≤ length log.own
+acked_few : (seat : Seat) (window : ℕ) (log : Log) (m : Memory) → StandsFor court_saved seat window log m → log.acked ≤ length log.own
 unfolding log_of
 acked_few seat window log m s =
     let p = m.peer in
@@ -149,7 +148,7 @@ packet_none window n seat a ps unfit at =
     at ∙ ap (map message_bytes) (sym (ap (λ b. packets_to (cond b (sends_at window t seat) t) (facing seat)) unfit ∙ old))
 
 -- whether one was written
-pub wrote : (seat : Seat) (window : ℕ) (log : Log) (m : Memory) (o : Outcome) (a : ℕ) → StandsFor court_rules seat window log m → o ≡ said (λ b. leb b 15) m.peer.window (length m.inputs) (length m.states) (log_of m.peer m.inputs) (tick a) → writes (tick a) o ≡ leb a 15
+pub wrote : (seat : Seat) (window : ℕ) (log : Log) (m : Memory) (o : Outcome) (a : ℕ) → StandsFor court_saved seat window log m → o ≡ said (λ b. leb b 15) m.peer.window (length m.inputs) (length m.states) (log_of m.peer m.inputs) (tick a) → writes (tick a) o ≡ leb a 15
 wrote seat window log m o a s e =
     let room : (m.peer.window + 1) * 64 ≤ length m.states = subst (λ w. (w + 1) * 64 ≤ length m.states) (sym s.window_is) s.roomy.states_long in
     ap (writes (tick a)) e ∙ writes_fits m.peer.window _ _ (log_of m.peer m.inputs) a s.roomy.inputs_long room
@@ -174,17 +173,17 @@ no_message : Message
 no_message = record { first = 0; inputs = []; ack = 0 }
 
 -- the memory of a machine to which it came
-pub delivered_at : (window : ℕ) (n : Network) (seat : Seat) (number : ℕ) (ps : List Sent) (d : Sent) (m k : Memory) → number < length ps → PacketsAt n seat ps → PeerAt window n seat m → Happened court_rules m.peer m.inputs m.states (arrival (sent_bytes (get_or ps number d))) k.peer k.inputs k.states → PeerAt window (acted window n seat (Deliver number)) seat k
+pub delivered_at : (window : ℕ) (n : Network) (seat : Seat) (number : ℕ) (ps : List Sent) (d : Sent) (m k : Memory) → number < length ps → PacketsAt n seat ps → PeerAt window n seat m → Happened court_saved m.peer m.inputs m.states (arrival (sent_bytes (get_or ps number d))) k.peer k.inputs k.states → PeerAt window (acted window n seat (Deliver number)) seat k
 unfolding acted turn
 delivered_at window n seat number ps d m k h at s did =
     let there = packet_at ps (packets_to n seat) number d no_message at h in
     let log : Log = peer_at n seat in
     let new : peer_at (acted window n seat (Deliver number)) seat ≡ event (λ b. leb b 15) window log (arrival (sent_bytes (get_or ps number d))) =
     peer_there n seat (handed (λ b. leb b 15) window log (packets_to n seat) number)
-    ∙ handed-there (λ b. leb b 15) window log (packets_to n seat) number no_message there.0
+    ∙ handed_there (λ b. leb b 15) window log (packets_to n seat) number no_message there.0
     ∙ ap (λ xs. event (λ b. leb b 15) window log (arrival xs)) (sym there.1) in
-    let P : Log → Type 0 = λ l. StandsFor court_rules seat window l k in
-    subst P (sym new) (stands_more court_rules seat window log m k (arrival (sent_bytes (get_or ps number d))) s did)
+    let P : Log → Type 0 = λ l. StandsFor court_saved seat window l k in
+    subst P (sym new) (stands_more court_saved seat window log m k (arrival (sent_bytes (get_or ps number d))) s did)
 
 -- and of one to which none came
 pub delivered_none : (window : ℕ) (n : Network) (seat : Seat) (number : ℕ) (ps : List Sent) (m : Memory) → length ps ≤ number → PacketsAt n seat ps → PeerAt window n seat m → PeerAt window (acted window n seat (Deliver number)) seat m
@@ -192,8 +191,8 @@ unfolding acted turn
 delivered_none window n seat number ps m h at s =
     let many : length ps ≡ length (packets_to n seat) = sym (length-map ps sent_bytes) ∙ ap length at ∙ length-map (packets_to n seat) message_bytes in
     let same : peer_at (acted window n seat (Deliver number)) seat ≡ peer_at n seat =
-    peer_there n seat (handed (λ b. leb b 15) window (peer_at n seat) (packets_to n seat) number) ∙ handed-past (λ b. leb b 15) window (peer_at n seat) (packets_to n seat) number (omega arith) in
-    let P : Log → Type 0 = λ l. StandsFor court_rules seat window l m in
+    peer_there n seat (handed (λ b. leb b 15) window (peer_at n seat) (packets_to n seat) number) ∙ handed_past (λ b. leb b 15) window (peer_at n seat) (packets_to n seat) number (omega arith) in
+    let P : Log → Type 0 = λ l. StandsFor court_saved seat window l m in
     subst P (sym same) s
 
 narrow : (a : ℕ) → leb a 15 ≡ true → a ≤ 15

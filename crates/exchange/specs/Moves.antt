@@ -1,6 +1,6 @@
 -- Two sessions and the packets between them, as a network. Assumes nothing: these are definitions.
 use Rattle.std.specs.Prelude.{◌≡◌, ℕ, cond, leb, List, [], ◌∷◌, map, take, nat_le}
-use Rattle.court_game.specs.Games.{court_rules}
+use Rattle.court_game.specs.Saved.{court_saved}
 use Rattle.game.specs.declared.seat.Seat.{Seat}
 use Rattle.packet.specs.Wire.{message_bytes}
 use Rattle.network.specs.Network.{Network, Turn, tick, send, deliver, peer_at, packets_to, new_network, turn, network}
@@ -43,7 +43,7 @@ sent_bytes s = take s.length s.bytes
 
 -- memory that stands for the peer at a seat of a network
 abbrev pub PeerAt : ℕ → Network → Seat → Memory → Type 0
-PeerAt window n seat m = StandsFor court_rules seat window (peer_at n seat) m
+PeerAt window n seat m = StandsFor court_saved seat window (peer_at n seat) m
 
 -- packets that are those ever written to a seat
 abbrev pub PacketsAt : Network → Seat → List Sent → Type 0

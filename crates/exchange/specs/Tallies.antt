@@ -1,7 +1,7 @@
 -- Events at one machine, counted. Assumes nothing: these are definitions.
 use Rattle.std.specs.Prelude.{ℕ, ◌+◌, ◌-◌, ◌^◌, min, Bool, cond}
-use Rattle.peer.specs.declared.outcome.Outcome.{Outcome}
-use Rattle.peer.specs.declared.outcome.Outcome.TheVariants.{Taken, Lost, Refused}
+use Rattle.rollback.specs.declared.outcome.Outcome.{Outcome}
+use Rattle.rollback.specs.declared.outcome.Outcome.TheVariants.{Taken, Lost, Refused}
 use Rattle.exchange.specs.declared.tally.Tally.{Tally}
 
 -- a sum that stops at the largest number

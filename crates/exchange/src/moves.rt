@@ -2,7 +2,7 @@
 ghost use Rattle.std.specs.Prelude.{◌≤◌};
 
 use game::seat::Seat;
-use session::calls::PACKET_LENGTH;
+use rollback_session::calls::PACKET_LENGTH;
 
 // What happens at one of them.
 #[derive(Clone, Copy)]

@@ -6,7 +6,7 @@ ghost use Rattle.network.specs.Network.{Turn};
 ghost use Rattle.network.specs.Promise.{Came};
 ghost use Rattle.peer.specs.Lent.{log_of};
 ghost use Rattle.peer.specs.Peers.{confirmed};
-ghost use Rattle.session.specs.Rows.{memory};
+ghost use Rattle.rollback_session.specs.Rows.{memory};
 ghost use Rattle.exchange.specs.Moves.{after_moves, court_network, PeerAt};
 ghost use Rattle.exchange.specs.Agreed.{Agree};
 
@@ -15,8 +15,8 @@ use crate::sides::act_at;
 use crate::tally::Tally;
 use game::seat::Seat;
 use peer::Peer;
-use session::Refused;
-use session::calls::begin;
+use rollback_session::Refused;
+use rollback_session::calls::begin;
 use std::alloc::{AllocError, Global};
 
 // Both machines, and what the events at each came to.

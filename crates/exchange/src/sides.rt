@@ -2,19 +2,20 @@
 ghost use Rattle.std.specs.Prelude.{◌≡◌, ℕ, List, Some, OnOk, ◌≢◌};
 ghost use Rattle.game.specs.declared.seat.Seat.{Seat as At};
 ghost use Rattle.network.specs.Network.{Network, Turn, facing};
-ghost use Rattle.peer.specs.declared.outcome.Outcome.TheVariants.{Refused};
+ghost use Rattle.rollback.specs.declared.outcome.Outcome.TheVariants.{Refused};
 ghost use Rattle.peer.specs.declared.outcome.Refusal.{Refusal};
 ghost use Rattle.peer.specs.Peers.{tick as ticked};
-ghost use Rattle.session.specs.Events.{event_of};
-ghost use Rattle.session.specs.Rows.{memory};
+ghost use Rattle.rollback_session.specs.Events.{event_of};
+ghost use Rattle.rollback_session.specs.Rows.{memory};
 ghost use Rattle.exchange.specs.declared.moves.Act.TheVariants.{Tick, Deliver};
 ghost use Rattle.exchange.specs.Moves.{court_network, acted, PeerAt, PacketsAt};
 
 use crate::moves::{Act, Sent};
 use crate::tally::Tally;
-use peer::{Outcome, Peer};
-use session::Happening;
-use session::calls::{PACKET_LENGTH, happen};
+use peer::Peer;
+use rollback::Outcome;
+use rollback_session::Happening;
+use rollback_session::calls::{PACKET_LENGTH, happen};
 use std::alloc::AllocError;
 
 fn tick_of<'a>(input: u8) -> Happening<'a>

@@ -2,7 +2,7 @@
 ghost use Rattle.std.specs.Prelude.{◌≡◌};
 ghost use Rattle.exchange.specs.Tallies.{counted_by};
 
-use peer::Outcome;
+use rollback::Outcome;
 
 #[derive(Clone, Copy)]
 pub struct Tally {

@@ -1,9 +1,8 @@
 -- What the checks of a recording come to, both ways. Assumes nothing.
-use Rattle.std.proofs.Common.{◌≡◌, ℕ, ◌+◌, ◌-◌, ◌*◌, ◌/◌, ◌<◌, ◌≤◌, List, [], ◌∷◌, ◌++◌, length, get_or, take, drop, Ok, Err, Result, sym, refl, ap, ◌∙◌, arith, length-drop, length-take}
+use Rattle.std.proofs.Common.{◌≡◌, ℕ, ◌+◌, ◌-◌, ◌*◌, ◌/◌, ◌≤◌, List, length, take, drop, Ok, sym, ap, ◌∙◌, arith, length-drop, length-take}
 use Rattle.std.proofs.lemmas.List.{take_rest}
 use Rattle.std.proofs.lemmas.Bool.Decides.{nat_tests}
 use Rattle.peer.specs.Peers.{alike}
-use Rattle.recording.specs.declared.fault.Fault.{Fault}
 use Rattle.recording.specs.Matches.{marks}
 use Rattle.recording.specs.Reading.{mark_bytes, window_in, count_in, frames_in, states_in, due_in, head_checked, states_told, states_checked}
 use Rattle.recording.proofs.Alikes.{alike_first, alike_second, alike_all}

@@ -1,16 +1,15 @@
 -- What is read is what was written, and only that. Assumes nothing.
-use Rattle.std.proofs.Common.{◌≡◌, ℕ, ◌+◌, ◌-◌, ◌*◌, ◌/◌, ◌^◌, ◌<◌, ◌≤◌, List, [], ◌∷◌, ◌++◌, length, get_or, take, drop, Ok, Err, Result, sym, refl, ap, ◌∙◌, subst, inl, inr, arith, length-append, length-drop, length-take}
-use Rattle.std.proofs.lemmas.List.{drop_more, take_rest, take_at, drop_at, get_or-take, get_or-drop, get_or_past, append-nil}
+use Rattle.std.proofs.Common.{◌≡◌, ℕ, ◌+◌, ◌-◌, ◌/◌, ◌<◌, ◌≤◌, List, [], ◌∷◌, ◌++◌, length, get_or, take, drop, Ok, Err, sym, refl, ap, ◌∙◌, inl, inr, arith, length-drop, length-take}
+use Rattle.std.proofs.lemmas.List.{drop_more, take_rest, get_or-take, get_or-drop, get_or_past}
 use Rattle.std.proofs.lemmas.Bool.{cases_lt}
 use Rattle.std.proofs.lemmas.Bool.Decides.{nat_tests}
-use Rattle.byte_numbers.specs.Little.{little, number_of, part}
+use Rattle.byte_numbers.specs.Little.{little, part}
 use Rattle.byte_numbers.proofs.Places.{little_part, part_rest}
 use Rattle.peer.specs.Peers.{alike}
 use Rattle.recording.specs.declared.fault.Fault.{Fault}
 use Rattle.recording.specs.Matches.{Match, marks, match_bytes}
 use Rattle.recording.specs.Reading.{mark_bytes, window_in, count_in, frames_in, states_in, due_in, head_checked, states_checked, reading, Proper}
-use Rattle.recording.proofs.Alikes.{alike_after}
-use Rattle.recording.proofs.Checks.{Headed, headed, heads, states_right}
+use Rattle.recording.proofs.Checks.{Headed}
 
 abbrev pub found_in : List ℕ → Match
 found_in xs = record { window = window_in xs; frames = frames_in xs }

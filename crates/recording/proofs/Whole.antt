@@ -1,7 +1,7 @@
 -- A recording as it is written, part by part. Assumes nothing.
-use Rattle.std.proofs.Common.{◌≡◌, ℕ, ◌+◌, ◌/◌, ◌≤◌, min, List, [], ◌∷◌, ◌++◌, length, take, drop, sym, refl, ap, ◌∙◌, arith, length-append}
+use Rattle.std.proofs.Common.{◌≡◌, ℕ, ◌+◌, ◌/◌, min, List, ◌∷◌, ◌++◌, length, drop, sym, refl, ap, ◌∙◌, arith, length-append}
 use borrow.Rule.Slice.PartMut.{put_mid}
-use Rattle.std.proofs.lemmas.List.{append_assoc, take_at}
+use Rattle.std.proofs.lemmas.List.{take_at}
 use Rattle.byte_numbers.specs.Little.{little, part, overwritten}
 use Rattle.byte_numbers.proofs.Places.{put_is, put_both}
 use Rattle.game.specs.declared.seat.Seat.{Seat}
@@ -10,7 +10,7 @@ use Rattle.peer.specs.declared.numbers.Peer.{Peer}
 use Rattle.peer.specs.Lent.{Long, log_of}
 use Rattle.peer.specs.Peers.{Log, confirmed}
 use Rattle.peer.proofs.Logs.{own_long, other_long}
-use Rattle.recording.specs.Matches.{Match, marks, match_of, match_bytes, match_length}
+use Rattle.recording.specs.Matches.{marks, match_of, match_bytes, match_length}
 use Rattle.recording.proofs.Frames.{length_frames, length_marks}
 
 abbrev pub head_bytes : ℕ → ℕ → List ℕ

@@ -1,5 +1,5 @@
 -- What a recording holds, and its bytes. Assumes nothing: these are definitions.
-use Rattle.std.specs.Prelude.{ℕ, zero, suc, ◌+◌, ◌*◌, ◌/◌, ◌%◌, ◌≤◌, List, [], ◌∷◌, ◌++◌, map, length, take}
+use Rattle.std.specs.Prelude.{ℕ, zero, suc, ◌+◌, ◌*◌, ◌/◌, ◌%◌, List, [], ◌∷◌, ◌++◌, map, length, take}
 use Rattle.byte_numbers.specs.Little.{little}
 use Rattle.court.specs.declared.state.State.{State}
 use Rattle.court.specs.Frame.{start}

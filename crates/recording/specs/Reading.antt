@@ -1,7 +1,6 @@
 -- How bytes are read as a recording or refused. Assumes nothing: these are definitions.
 use Rattle.std.specs.Prelude.{◌≡◌, ℕ, ◌+◌, ◌/◌, ◌<◌, ◌≤◌, cond, ◌||◌, List, [], ◌∷◌, length, drop, Ok, Err, Result, nat_lt, slice_index}
 use Rattle.byte_numbers.specs.Little.{number_of, part}
-use Rattle.packet.specs.Wire.{and_then}
 use Rattle.peer.specs.Peers.{alike}
 use Rattle.recording.specs.declared.fault.Fault.{Fault}
 use Rattle.recording.specs.declared.fault.Fault.TheVariants.{NoMark, CutShort, Window, TooMany, WrongState, TooLong}
@@ -61,6 +60,11 @@ states_told at right there due =
 
 unfoldable pub states_checked : List ℕ → Result (Unit {0}) Fault
 states_checked xs = states_told (8 + count_in xs) (alike (states_in xs) (due_in xs)) (length (states_in xs)) (length (due_in xs))
+
+-- one check behind the other: the first refusal counts
+abbrev pub and_then : {A B E : Type 0} → Result A E → Result B E → Result B E
+and_then (Ok a) next = next
+and_then (Err f) next = Err f
 
 unfoldable pub reading : List ℕ → Result Match Fault
 reading xs = and_then (head_checked xs) (and_then (states_checked xs) (Ok (record { window = window_in xs; frames = frames_in xs })))

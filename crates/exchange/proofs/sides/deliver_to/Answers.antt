@@ -1,11 +1,11 @@
 use Rattle.std.proofs.Common.{◌≡◌, ℕ, ◌-◌, leb, List, length, get_or, take, sym, ap, ◌∙◌, subst, arith}
-use Rattle.court_game.specs.Games.{court_rules}
-use Rattle.peer.specs.declared.outcome.Outcome.TheVariants.{Refused}
+use Rattle.court_game.specs.Saved.{court_saved}
+use Rattle.rollback.specs.declared.outcome.Outcome.TheVariants.{Refused}
 use Rattle.peer.specs.Lent.{log_of}
 use Rattle.peer.specs.Peers.{arrival}
 use Rattle.rollback.specs.Saved.{Happened}
-use Rattle.session.specs.Events.{said}
-use Rattle.session.specs.Rows.{memory}
+use Rattle.rollback_session.specs.Events.{said}
+use Rattle.rollback_session.specs.Rows.{memory}
 use Rattle.exchange.specs.Moves.{sent_bytes}
 use Rattle.exchange.proofs.Machines.{delivered_at, delivered_none, none_refused_at}
 use Rattle.exchange.proofs.sides.deliver_to.Goals as goal
@@ -25,7 +25,7 @@ returns c =
     let k = memory c.happen.new.p c.happen.new.inputs c.happen.new.states in
     let zero : s.length - 0 ≡ s.length = omega arith in
     let bytes : take (s.length - 0) s.bytes ≡ sent_bytes (get_or ps c.args.number s) = ap (λ i. take i s.bytes) zero ∙ ap sent_bytes c.index-packets-number.is in
-    let H : List ℕ → Type 0 = λ xs. Happened court_rules m.peer m.inputs m.states (arrival xs) k.peer k.inputs k.states in
+    let H : List ℕ → Type 0 = λ xs. Happened court_saved m.peer m.inputs m.states (arrival xs) k.peer k.inputs k.states in
     record {
       at = λ window n seat stands packets. delivered_at window n seat c.args.number ps s m k c.if-none.false packets stands (subst H bytes c.happen.ensures.happens);
       taken = λ window ts seat stands packets f e.

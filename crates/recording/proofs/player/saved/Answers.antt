@@ -1,4 +1,4 @@
-use Rattle.std.proofs.Common.{◌≡◌, ◌-◌, ◌*◌, ◌/◌, map, length, take, sym, ap, ◌∙◌, arith}
+use Rattle.std.proofs.Common.{◌-◌, ◌*◌, ◌/◌, map, length, take, sym, ap, ◌∙◌, arith}
 use Rattle.court.proofs.Stays.{start_in}
 use Rattle.court.specs.Frame.{start}
 use Rattle.court_game.proofs.Stays.{plays_in}
@@ -19,4 +19,4 @@ returns c =
     let states = c.args.recording.now.states.now in
     let n = c.args.marks in
     let gs = take (600 * n) fs in
-    c.load-state.ensures.saved (after_frames gs) (plays_in start start_in (map seat_0 gs) (map seat_1 gs)) (saved_at states fs n (length fs / 600) (64 * n - (64 * n - 64)) right (omega arith) c.requires.early (omega arith))
+    c.load_state.ensures.saved (after_frames gs) (plays_in start start_in (map seat_0 gs) (map seat_1 gs)) (saved_at states fs n (length fs / 600) (64 * n - (64 * n - 64)) right (omega arith) c.requires.early (omega arith))

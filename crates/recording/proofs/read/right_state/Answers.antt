@@ -1,5 +1,4 @@
-use Rattle.std.proofs.Common.{◌≡◌, ◌-◌, min, length, take, sym, ap, ◌∙◌, inl, inr, arith}
-use Rattle.court_game.specs.Snapshots.{state_bytes}
+use Rattle.std.proofs.Common.{◌-◌, take, ap, ◌∙◌, arith}
 use Rattle.peer.specs.Peers.{alike}
 use Rattle.recording.proofs.Frames.{take_most}
 use Rattle.recording.proofs.read.right_state.Goals as goal
@@ -8,7 +7,7 @@ pub returns : goal.returns
 returns c =
     let xs = c.args.bytes.now in
     let e = c.min-end.result in
-    let due = c.save-state.new.part in
+    let due = c.save_state.new.part in
     c.same_front.ensures
     ∙ ap (λ zs. alike zs due) (take_most xs 64 (e - 0) (omega arith))
-    ∙ ap (alike (take 64 xs)) c.save-state.ensures
+    ∙ ap (alike (take 64 xs)) c.save_state.ensures

@@ -15,16 +15,16 @@ returns-then-differs c =
     let j = c.loop-j.j in
     let fs = c.args.frames.now in
     let states = c.args.states.now in
-    let state = after_part fs _ j (600 * j + 600 - 600 * j) _ c.play-frames.result.0.state (omega arith) refl c.loop-j.invariant.0 c.play-frames.ensures in
-    differs_at states fs j (length fs / 600) c.right-state-front.result c.loop-j-test.true c.loop-j.invariant.1 (front_is states fs j _ _ state c.right-state-front.ensures) c.if-differs.true
+    let state = after_part fs _ j (600 * j + 600 - 600 * j) _ c.play_frames.result.0.state (omega arith) refl c.loop-j.invariant.0 c.play_frames.ensures in
+    differs_at states fs j (length fs / 600) c.right_state-front.result c.loop-j-test.true c.loop-j.invariant.1 (front_is states fs j _ _ state c.right_state-front.ensures) c.if-differs.true
 
 pub loop-j-preserved : goal.loop-j-preserved
 loop-j-preserved c =
     let j = c.loop-j.j in
     let fs = c.args.frames.now in
     let states = c.args.states.now in
-    let state = after_part fs _ j (600 * j + 600 - 600 * j) _ c.play-frames.result.0.state (omega arith) refl c.loop-j.invariant.0 c.play-frames.ensures in
-    let front = front_is states fs j _ _ state c.right-state-front.ensures in
+    let state = after_part fs _ j (600 * j + 600 - 600 * j) _ c.play_frames.result.0.state (omega arith) refl c.loop-j.invariant.0 c.play_frames.ensures in
+    let front = front_is states fs j _ _ state c.right_state-front.ensures in
     let right = right_at states fs j c.loop-j.invariant.1 c.loop-j.invariant.2 (omega arith) in
     (state, right.0, right.1)
 

@@ -1,4 +1,4 @@
-use Rattle.std.proofs.Common.{◌≡◌, ℕ, ◌+◌, ◌-◌, length, take, drop, sym, ap, ◌∙◌, arith}
+use Rattle.std.proofs.Common.{◌≡◌, ◌+◌, ◌-◌, length, take, drop, sym, ap, ◌∙◌, arith}
 use Rattle.game.specs.declared.seat.Seat.{Seat}
 use Rattle.peer.specs.Lent.{log_of}
 use Rattle.recording.specs.Matches.{frame_bytes, match_of}
@@ -12,7 +12,7 @@ returns-in-Left c =
     let n = length c.args.frames.now in
     let a : n - 0 ≡ n = omega arith in
     let b : 1000000 + n - 1000000 ≡ n = omega arith in
-    c.put-frames.ensures
+    c.put_frames.ensures
     ∙ ap (λ k. frame_bytes (take k xs) (take (1000000 + n - 1000000) (drop 1000000 xs))) a
     ∙ ap (λ k. frame_bytes (take n xs) (take k (drop 1000000 xs))) b
     ∙ confirmed_frames p xs n c.requires.0 c.requires.1
@@ -25,7 +25,7 @@ returns-in-Right c =
     let n = length c.args.frames.now in
     let a : n - 0 ≡ n = omega arith in
     let b : 1000000 + n - 1000000 ≡ n = omega arith in
-    c.put-frames-in-Right.ensures
+    c.put_frames-in-Right.ensures
     ∙ ap (λ k. frame_bytes (take (1000000 + n - 1000000) (drop 1000000 xs)) (take k xs)) a
     ∙ ap (λ k. frame_bytes (take k (drop 1000000 xs)) (take n xs)) b
     ∙ confirmed_across p xs n c.requires.0 c.requires.1

@@ -20,11 +20,11 @@ loop-j-preserved c =
     let k = 8 + 600 * j + 600 - (8 + 600 * j) in
     let next = take k (drop (8 + 600 * j) c.loop-j.out) in
     let same : next ≡ take k (drop (600 * j) fs) = ap (λ zs. take k (drop (8 + 600 * j) zs)) c.loop-j.invariant.1 ∙ part_before xs (marks fs j) n (600 * j) k (omega arith) (omega arith) in
-    let state = after_part fs next j k _ c.play-frames.result.0.state (omega arith) same c.loop-j.invariant.0 c.play-frames.ensures in
+    let state = after_part fs next j k _ c.play_frames.result.0.state (omega arith) same c.loop-j.invariant.0 c.play_frames.ensures in
     let bytes = state_bytes (after_frames (take (600 * (j + 1)) fs)) in
     let long = length_marks fs j in (
       state,
-      put_is (8 + n + 64 * j) _ c.loop-j.out c.save-state.new.part bytes (c.save-state.ensures ∙ ap state_bytes state) (omega arith)
+      put_is (8 + n + 64 * j) _ c.loop-j.out c.save_state.new.part bytes (c.save_state.ensures ∙ ap state_bytes state) (omega arith)
           ∙ ap (λ zs. overwritten zs (8 + n + 64 * j) bytes) c.loop-j.invariant.1
           ∙ put_both xs (marks fs j) bytes (8 + n) (8 + n + 64 * j) (omega arith) (omega arith)
           ∙ ap (overwritten xs (8 + n)) (sym (marks_more fs j)),
@@ -35,16 +35,16 @@ returns c =
     let n : c.loop-j.j ≡ c.args.frames / 600 = omega arith in
     c.loop-j.invariant.1 ∙ ap (λ m. overwritten c.args.out.now (8 + c.args.frames) (marks (part c.args.out.now 8 c.args.frames) m)) n
 
-pub slice-bounds-play-frames-end : goal.slice-bounds-play-frames-end
-slice-bounds-play-frames-end c =
+pub slice_bounds-play_frames-end : goal.slice_bounds-play_frames-end
+slice_bounds-play_frames-end c =
     let l = marked_long c.args.out.now c.loop-j.out c.args.frames c.loop-j.j c.loop-j.invariant.1 (omega arith) in
     omega arith
 
-pub slice-bounds-save-state-end : goal.slice-bounds-save-state-end
-slice-bounds-save-state-end c =
+pub slice_bounds-save_state-end : goal.slice_bounds-save_state-end
+slice_bounds-save_state-end c =
     let l = marked_long c.args.out.now c.loop-j.out c.args.frames c.loop-j.j c.loop-j.invariant.1 (omega arith) in
     omega arith
 
-pub shape-of-out : goal.shape-of-out
-shape-of-out c =
+pub shape_of-out : goal.shape_of-out
+shape_of-out c =
     marked_long c.args.out.now c.loop-j.out c.args.frames c.loop-j.j c.loop-j.invariant.1 (omega arith)

@@ -1,4 +1,4 @@
-use Rattle.std.proofs.Common.{◌≡◌, ℕ, ◌+◌, ◌-◌, ◌/◌, ◌<◌, List, length, get_or, Ok, Result, sym, ap, ◌∙◌, subst, arith}
+use Rattle.std.proofs.Common.{ℕ, ◌+◌, ◌-◌, ◌/◌, ◌<◌, List, length, get_or, Ok, Result, sym, ap, ◌∙◌, subst, arith}
 use Rattle.std.proofs.lemmas.Result.{err_from_is_err_and}
 use Rattle.recording.specs.declared.fault.Fault.{Fault}
 use Rattle.recording.specs.Matches.{Match, marks, match_bytes}
@@ -7,58 +7,58 @@ use Rattle.recording.proofs.Checks.{headed, states_right}
 use Rattle.recording.proofs.Readings.{bad_head, bad_states, all_right, frames_there, read_back, read_proper, handed}
 use Rattle.recording.proofs.held.Recording.read.Goals as goal
 
-pub returns-in-err-check-head : goal.returns-in-err-check-head
-returns-in-err-check-head c =
-    let p = err_from_is_err_and c.from-residual.result c.from-residual.ensures.1 in
-    rw (p.1, p.2) (record { value = sym (bad_head c.args.bytes.now c.in-err-check-head.field-0.0 (sym c.in-err-check-head.ensures)); proper = tt; right = tt; back = tt })
+pub returns-in_err-check_head : goal.returns-in_err-check_head
+returns-in_err-check_head c =
+    let p = err_from_is_err_and c.from_residual.result c.from_residual.ensures.1 in
+    rw (p.1, p.2) (record { value = sym (bad_head c.args.bytes.now c.in_err-check_head.field-0.0 (sym c.in_err-check_head.ensures)); proper = tt; right = tt; back = tt })
 
-pub get-u32-count-requires : goal.get-u32-count-requires
-get-u32-count-requires c = let h = headed c.args.bytes.now (sym c.in-ok-check-head.ensures) in omega arith
+pub get_u32-count-requires : goal.get_u32-count-requires
+get_u32-count-requires c = let h = headed c.args.bytes.now (sym c.in_ok-check_head.ensures) in omega arith
 
-pub check-states-requires : goal.check-states-requires
-check-states-requires c =
-    let h = headed c.args.bytes.now (sym c.in-ok-check-head.ensures) in
-    let n = c.get-u32-count.ensures in
+pub check_states-requires : goal.check_states-requires
+check_states-requires c =
+    let h = headed c.args.bytes.now (sym c.in_ok-check_head.ensures) in
+    let n = c.get_u32-count.ensures in
     record { count = n; whole = omega arith; few = omega arith }
 
-pub returns-in-err-check-states : goal.returns-in-err-check-states
-returns-in-err-check-states c =
-    let p = err_from_is_err_and c.from-residual-in-err-check-states.result c.from-residual-in-err-check-states.ensures.1 in
-    rw (p.1, p.2) (record { value = sym (bad_states c.args.bytes.now c.in-err-check-states.field-0.0 (sym c.in-ok-check-head.ensures) (sym c.in-err-check-states.ensures)); proper = tt; right = tt; back = tt })
+pub returns-in_err-check_states : goal.returns-in_err-check_states
+returns-in_err-check_states c =
+    let p = err_from_is_err_and c.from_residual-in_err-check_states.result c.from_residual-in_err-check_states.ensures.1 in
+    rw (p.1, p.2) (record { value = sym (bad_states c.args.bytes.now c.in_err-check_states.field-0.0 (sym c.in_ok-check_head.ensures) (sym c.in_err-check_states.ensures)); proper = tt; right = tt; back = tt })
 
 pub bounds-bytes-3 : goal.bounds-bytes-3
-bounds-bytes-3 c = let h = headed c.args.bytes.now (sym c.in-ok-check-head.ensures) in omega arith
+bounds-bytes-3 c = let h = headed c.args.bytes.now (sym c.in_ok-check_head.ensures) in omega arith
 
-pub slice-bounds-result-end : goal.slice-bounds-result-end
-slice-bounds-result-end c =
-    let h = headed c.args.bytes.now (sym c.in-ok-check-head.ensures) in
-    let n = c.get-u32-count.ensures in
+pub slice_bounds-result-end : goal.slice_bounds-result-end
+slice_bounds-result-end c =
+    let h = headed c.args.bytes.now (sym c.in_ok-check_head.ensures) in
+    let n = c.get_u32-count.ensures in
     omega arith
 
-pub slice-bounds-result-count-2 : goal.slice-bounds-result-count-2
-slice-bounds-result-count-2 c =
-    let h = headed c.args.bytes.now (sym c.in-ok-check-head.ensures) in
-    let n = c.get-u32-count.ensures in
+pub slice_bounds-result-count-2 : goal.slice_bounds-result-count-2
+slice_bounds-result-count-2 c =
+    let h = headed c.args.bytes.now (sym c.in_ok-check_head.ensures) in
+    let n = c.get_u32-count.ensures in
     omega arith
 
-pub slice-bounds-result-start-2 : goal.slice-bounds-result-start-2
-slice-bounds-result-start-2 c =
-    let h = headed c.args.bytes.now (sym c.in-ok-check-head.ensures) in
-    let n = c.get-u32-count.ensures in
+pub slice_bounds-result-start-2 : goal.slice_bounds-result-start-2
+slice_bounds-result-start-2 c =
+    let h = headed c.args.bytes.now (sym c.in_ok-check_head.ensures) in
+    let n = c.get_u32-count.ensures in
     omega arith
 
 pub returns : goal.returns
 returns c =
     let xs = c.args.bytes.now in
-    let head = sym c.in-ok-check-head.ensures in
-    let states = sym c.in-ok-check-states.ensures in
+    let head = sym c.in_ok-check_head.ensures in
+    let states = sym c.in_ok-check_states.ensures in
     let h = headed xs head in
-    let n = c.get-u32-count.result in
-    let given = handed xs n (8 + n - 8) c.get-u32-count.ensures (omega arith) in
+    let n = c.get_u32-count.result in
+    let given = handed xs n (8 + n - 8) c.get_u32-count.ensures (omega arith) in
     let mk : List ℕ → Match = λ fs. record { window = window_in xs; frames = fs } in
     let same = ap mk given.frames_are in
     let ok : Match → Result Match Fault = λ m. Ok m in
-    let bytes : (i : ℕ) → get_or xs i 0 < 256 = λ i. (c.type-inv.bytes i).fits in
+    let bytes : (i : ℕ) → get_or xs i 0 < 256 = λ i. (c.type_inv.bytes i).fits in
     record {
       value = ap ok same ∙ sym (all_right xs head states);
       proper = subst Proper (sym same) (read_proper xs bytes h);

@@ -1,0 +1,156 @@
+-- Events in bytes: what stands at a place, and that it is one. Assumes nothing.
+use Rattle.std.proofs.Common.{◌≡◌, ℕ, ◌+◌, ◌-◌, ◌<◌, ◌≤◌, ◌⊎◌, List, [], ◌∷◌, ◌++◌, length, get_or, take, drop, sym, refl, ap, ◌∙◌, inl, inr, arith, length-append, length-drop}
+use Rattle.std.specs.List.{flat_map, AllByRecursion}
+use Rattle.std.proofs.lemmas.List.{append_assoc, append-nil, drop_all, drop_more, drop-drop, get_or-drop, length-take-le, take_at, drop_at, flat_map_more}
+use Rattle.std.proofs.ByRecursion.{All-push}
+use Rattle.byte_numbers.specs.Little.{little, number_of, part}
+use Rattle.byte_numbers.proofs.Numbers.{number_little}
+use Rattle.byte_numbers.proofs.Places.{little_part, part_rest}
+use Rattle.peer.specs.Peers.{Event, tick, arrival}
+use Rattle.rollback_session.specs.Files.{event_bytes, Sized, FileOf, StandsAt, NoEvent, FaultyAt, OneRow}
+
+-- ---- what stands at a place
+
+pub tick_stands : (file : List ℕ) (at : ℕ) → at + 2 ≤ length file → get_or file at 0 ≡ 0 → StandsAt file at (tick (get_or file (at + 1) 0)) (at + 2)
+tick_stands file at h k =
+    let d : drop at file ≡ get_or file at 0 ∷ drop (at + 1) file = drop_more file at 0 (omega arith) in
+    let e : drop (at + 1) file ≡ get_or file (at + 1) 0 ∷ drop (at + 1 + 1) file = drop_more file (at + 1) 0 (omega arith) in
+    let n : at + 1 + 1 ≡ at + 2 = omega arith in
+    let f : drop (at + 1 + 1) file ≡ drop (at + 2) file = ap (λ i. drop i file) n in
+    record { sized = tt; next_is = refl; within = h; there = cc }
+
+pub arrival_stands : (file : List ℕ) (at n k : ℕ) → at + 3 + n ≤ length file → get_or file at 0 ≡ 1 → n ≡ number_of (part file (at + 1) 2) → n < 65536 → ((i : ℕ) → get_or file i 0 < 256) → k ≡ n → StandsAt file at (arrival (take k (drop (at + 3) file))) (at + 3 + n)
+arrival_stands file at n k h kind number room bytes same =
+    let xs : List ℕ = take k (drop (at + 3) file) in
+    let long : length xs ≡ n = length-take-le k (drop (at + 3) file) (simp length-drop (omega arith)) ∙ same in
+    let d : drop at file ≡ get_or file at 0 ∷ drop (at + 1) file = drop_more file at 0 (omega arith) in
+    let e : drop (at + 1) file ≡ part file (at + 1) 2 ++ drop (at + 3) file = part_rest file (at + 1) 2 (at + 3) (omega arith) in
+    let l : little 2 (length xs) ≡ part file (at + 1) 2 = ap (little 2) (long ∙ number) ∙ little_part file 2 (at + 1) (omega arith) bytes in
+    let r : drop (at + 3) file ≡ xs ++ drop (at + 3 + n) file = part_rest file (at + 3) k (at + 3 + n) (omega arith) in
+    record {
+      sized = omega arith;
+      next_is = omega arith;
+      within = h;
+      there = d ∙ ap (λ b. b ∷ drop (at + 1) file) kind ∙ ap (λ zs. 1 ∷ zs) (e ∙ ap (λ zs. part file (at + 1) 2 ++ zs) r ∙ ap (λ zs. zs ++ (xs ++ drop (at + 3 + n) file)) (sym l) ∙ sym (append_assoc (little 2 (length xs)) xs (drop (at + 3 + n) file)));
+    }
+
+-- ---- where none stands
+
+-- bytes with an event at their front, by numbers
+Fronted : List ℕ → Type 0
+Fronted xs =
+    ((get_or xs 0 0 ≡ 0) × (2 ≤ length xs))
+    ⊎ ((get_or xs 0 0 ≡ 1) × (3 + number_of (part xs 1 2) ≤ length xs))
+
+fronted : (e : Event) (rest : List ℕ) → Sized e → Fronted (event_bytes e ++ rest)
+unfolding Fronted
+fronted (tick a) rest h = inl (refl, omega arith)
+fronted (arrival xs) rest h =
+    let n : number_of (little 2 (length xs)) ≡ length xs = number_little 2 (length xs) h in
+    let l : length ((little 2 (length xs) ++ xs) ++ rest) ≡ 2 + length xs + length rest = simp length-append in
+    inr (refl, omega arith)
+
+at_front : (file : List ℕ) (at : ℕ) → Fronted (drop at file) → ((get_or file at 0 ≡ 0) × (at + 2 ≤ length file)) ⊎ ((get_or file at 0 ≡ 1) × (at + 3 + number_of (part file (at + 1) 2) ≤ length file))
+unfolding Fronted
+at_front file at h =
+    let k : get_or (drop at file) 0 0 ≡ get_or file (at + 0) 0 = get_or-drop at file 0 0 in
+    let z : at + 0 ≡ at = omega arith in
+    let kind : get_or file (at + 0) 0 ≡ get_or file at 0 = ap (λ i. get_or file i 0) z in
+    let n : number_of (part (drop at file) 1 2) ≡ number_of (part file (at + 1) 2) = ap (λ zs. number_of (take 2 zs)) (drop-drop 1 at file) in
+    let l : length (drop at file) ≡ length file - at = length-drop at file in
+    elim h [ inl p ↦ inl (omega arith, omega arith) | inr p ↦ inr (omega arith, omega arith) ]
+
+-- an event that stands at a place has a kind and is whole
+pub stands_whole : (file : List ℕ) (at : ℕ) (e : Event) (rest : List ℕ) → Sized e → drop at file ≡ event_bytes e ++ rest → ((get_or file at 0 ≡ 0) × (at + 2 ≤ length file)) ⊎ ((get_or file at 0 ≡ 1) × (at + 3 + number_of (part file (at + 1) 2) ≤ length file))
+stands_whole file at e rest h is = at_front file at (rw is (fronted e rest h))
+
+-- ---- one row
+
+same_front : (e f : Event) (r s : List ℕ) → Sized e → Sized f → event_bytes e ++ r ≡ event_bytes f ++ s → (e ≡ f) × (r ≡ s)
+same_front (tick a) (tick b) r s h k is =
+    let e : a ≡ b = cc in
+    let f : r ≡ s = cc in
+    (ap tick e, f)
+same_front (tick a) (arrival ys) r s h k is = let z : ◌≡◌ {A = ℕ} 0 1 = cc in absurd (omega arith)
+same_front (arrival xs) (tick b) r s h k is = let z : ◌≡◌ {A = ℕ} 0 1 = cc in absurd (omega arith)
+same_front (arrival xs) (arrival ys) r s h k is =
+    let n : ℕ = length xs in
+    let m : ℕ = length ys in
+    let tails : little 2 n ++ (xs ++ r) ≡ little 2 m ++ (ys ++ s) = sym (append_assoc (little 2 n) xs r) ∙ ap (drop 1) is ∙ append_assoc (little 2 m) ys s in
+    let numbers : little 2 n ≡ little 2 m = ap (take 2) tails in
+    let rest : xs ++ r ≡ ys ++ s = ap (drop 2) tails in
+    let long : n ≡ m = sym (number_little 2 n h) ∙ ap number_of numbers ∙ number_little 2 m k in
+    let packets : xs ≡ ys = sym (take_at xs r n refl) ∙ ap (take n) rest ∙ ap (λ i. take i (ys ++ s)) long ∙ take_at ys s m refl in
+    let others : r ≡ s = sym (drop_at xs r n refl) ∙ ap (drop n) rest ∙ ap (λ i. drop i (ys ++ s)) long ∙ drop_at ys s m refl in
+    (ap arrival packets, others)
+
+some_byte : (e : Event) (rest : List ℕ) → [] ≡ event_bytes e ++ rest → ⊥
+some_byte (tick a) rest is = let z : 0 ≡ length (event_bytes (tick a) ++ rest) = ap length is in omega arith
+some_byte (arrival xs) rest is = let z : 0 ≡ length (event_bytes (arrival xs) ++ rest) = ap length is in omega arith
+
+same_rows : (es fs : List Event) → AllByRecursion Sized es → AllByRecursion Sized fs → flat_map event_bytes es ≡ flat_map event_bytes fs → es ≡ fs
+same_rows [] [] h k is = refl
+same_rows [] (f ∷ fs) h k is = absurd (some_byte f (flat_map event_bytes fs) is)
+same_rows (e ∷ es) [] h k is = absurd (some_byte e (flat_map event_bytes es) (sym is))
+same_rows (e ∷ es) (f ∷ fs) h k is =
+    let p = same_front e f (flat_map event_bytes es) (flat_map event_bytes fs) h.0 k.0 is in
+    let first : e ≡ f = p.0 in
+    let rest : es ≡ fs = same_rows es fs h.1 k.1 p.1 in
+    cc
+
+-- events, and then more bytes with none at their front, are no row of events
+not_faulty : (es bs : List Event) (rest : List ℕ) → AllByRecursion Sized es → AllByRecursion Sized bs → flat_map event_bytes es ≡ flat_map event_bytes bs ++ rest → 0 < length rest → NoEvent rest → ⊥
+not_faulty [] [] rest h k is more none = let z : 0 ≡ length rest = ap length is in omega arith
+not_faulty (e ∷ es) [] rest h k is more none = none e (flat_map event_bytes es) h.0 (sym is)
+not_faulty [] (b ∷ bs) rest h k is more none =
+    some_byte b (flat_map event_bytes bs ++ rest) (is ∙ append_assoc (event_bytes b) (flat_map event_bytes bs) rest)
+not_faulty (e ∷ es) (b ∷ bs) rest h k is more none =
+    not_faulty es bs rest h.1 k.1 (same_front e b (flat_map event_bytes es) (flat_map event_bytes bs ++ rest) h.0 k.0 (is ∙ append_assoc (event_bytes b) (flat_map event_bytes bs) rest)).1 more none
+
+pub one_row : OneRow
+one_row file es f =
+    (λ fs g. same_rows es fs f.sized g.sized (sym f.bytes_are ∙ g.bytes_are), λ at g. not_faulty es g.before g.rest f.sized g.front.sized (sym f.bytes_are ∙ g.bytes_are) g.more g.none)
+
+-- ---- a file event by event
+
+-- the first events of a file, up to a place
+pub record ReadUpTo (file : List ℕ) (es : List Event) (at : ℕ) : Type 0 where
+  pub sized : AllByRecursion Sized es
+  pub bytes_are : file ≡ flat_map event_bytes es ++ drop at file
+  pub place_is : at ≡ length (flat_map event_bytes es)
+  pub within : at ≤ length file
+
+pub read_none : (file : List ℕ) → ReadUpTo file [] 0
+read_none file = record { sized = tt; bytes_are = refl; place_is = refl; within = omega arith }
+
+pub read_more : (file : List ℕ) (es : List Event) (at : ℕ) (e : Event) (next : ℕ) → ReadUpTo file es at → StandsAt file at e next → ReadUpTo file (es ++ e ∷ []) next
+read_more file es at e next r s =
+    let more : flat_map event_bytes es ++ event_bytes e ≡ flat_map event_bytes (es ++ e ∷ []) = flat_map_more event_bytes [] es e in
+    let long : length (flat_map event_bytes (es ++ e ∷ [])) ≡ length (flat_map event_bytes es) + length (event_bytes e) = ap length (sym more) ∙ length-append (flat_map event_bytes es) (event_bytes e) in
+    record {
+      sized = All-push Sized es e r.sized s.sized;
+      bytes_are = r.bytes_are ∙ ap (λ zs. flat_map event_bytes es ++ zs) s.there ∙ sym (append_assoc (flat_map event_bytes es) (event_bytes e) (drop next file)) ∙ ap (λ zs. zs ++ drop next file) more;
+      place_is = s.next_is ∙ (omega arith);
+      within = s.within;
+    }
+
+pub read_all : (file : List ℕ) (es : List Event) (at : ℕ) → ReadUpTo file es at → length file ≤ at → FileOf es file
+read_all file es at r h =
+    record { sized = r.sized; bytes_are = r.bytes_are ∙ ap (λ zs. flat_map event_bytes es ++ zs) (drop_all at file h) ∙ append-nil (flat_map event_bytes es) }
+
+pub read_broken : (file : List ℕ) (es : List Event) (at : ℕ) → ReadUpTo file es at → at < length file → NoEvent (drop at file) → FaultyAt file at
+read_broken file es at r h none =
+    record {
+      before = es;
+      rest = drop at file;
+      front = record { sized = r.sized; bytes_are = refl };
+      bytes_are = r.bytes_are;
+      place_is = r.place_is;
+      more = simp length-drop (omega arith);
+      none = none;
+    }
+
+-- an event goes on
+pub next_beyond : (file : List ℕ) (at : ℕ) (e : Event) (next : ℕ) → StandsAt file at e next → at + 2 ≤ next
+next_beyond file at (tick a) next s = omega (arith, s.next_is)
+next_beyond file at (arrival xs) next s = omega (arith, s.next_is)

@@ -1,0 +1,92 @@
+// Events in bytes, as files have them: 0 and an input, or 1, a length in two bytes, low byte first, and bytes that came.
+ghost use Rattle.std.specs.Prelude.{◌≡◌, ℕ, ◌+◌, ◌≤◌, List, ◌∷◌, length, drop, MatchResult, slice_index};
+ghost use Rattle.rollback_session.specs.declared.refused.Refused.TheVariants.{Event};
+ghost use Rattle.rollback_session.specs.Events.{event_of};
+ghost use Rattle.byte_numbers.specs.Little.{little};
+ghost use Rattle.peer.specs.Peers.{Event as Happened};
+ghost use Rattle.rollback_session.specs.Files.{FileOf, StandsAt, NoEvent, FaultyAt};
+
+use crate::event::Happening;
+use crate::refused::Refused;
+use byte_numbers::get_u16;
+
+const TICK: u8 = 0;
+
+const ARRIVAL: u8 = 1;
+
+// Bytes before a packet: the event's kind and the packet's length.
+pub const HEAD: usize = 3;
+
+// An event of a file, and where the next one would begin.
+#[derive(Clone, Copy)]
+pub struct Placed<'a> {
+    pub event: Happening<'a>,
+    pub next: usize,
+}
+
+// The event of bytes that came which begins at a place: the packet is a part of the file.
+fn arrival_at(file: &[u8], at: usize) -> Result<Placed<'_>, Refused>
+    requires { (at + 1 ≤ length file.now) × (slice_index file.now at ≡ 1) }
+    ensures { MatchResult result (λ p. StandsAt file.now at (event_of p.event) p.next) (λ f. (f ≡ Event at) × NoEvent (drop at file.now)) }
+{
+    let cut = file.len() - at < HEAD;
+    if cut {
+        return Err(Refused::Event(at));
+    }
+    let from = at + HEAD;
+    let length = usize::from(get_u16(file, at + 1));
+    let short = file.len() - from < length;
+    if short {
+        return Err(Refused::Event(at));
+    }
+    let next = from + length;
+    Ok(Placed {
+        event: Happening::Arrival(&file[from..next]),
+        next,
+    })
+}
+
+// The event that begins at a place of a file; or that there is none.
+pub fn event_at(file: &[u8], at: usize) -> Result<Placed<'_>, Refused>
+    ensures { MatchResult result (λ p. StandsAt file.now at (event_of p.event) p.next) (λ f. (f ≡ Event at) × NoEvent (drop at file.now)) }
+{
+    let past = file.len() <= at;
+    if past {
+        return Err(Refused::Event(at));
+    }
+    match file[at] {
+        TICK => {
+            let cut = file.len() - at < 2;
+            if cut {
+                return Err(Refused::Event(at));
+            }
+            Ok(Placed {
+                event: Happening::Tick(file[at + 1]),
+                next: at + 2,
+            })
+        }
+        ARRIVAL => arrival_at(file, at),
+        _ => Err(Refused::Event(at)),
+    }
+}
+
+// How many events a file has; or the first byte of what is no event.
+pub fn check_events(file: &[u8]) -> Result<usize, Refused>
+    ensures { MatchResult result (λ n. (es : List Happened) × FileOf es file.now × (n ≡ length es)) (λ f. (at : ℕ) × (f ≡ Event at) × FaultyAt file.now at) }
+{
+    let mut at = 0;
+    let mut count = 0;
+    while at < file.len() {
+        at = event_at(file, at)?.next;
+        count += 1;
+    }
+    Ok(count)
+}
+
+// What stands before a packet of this length in a file of events.
+pub fn arrival_head(length: u16) -> [u8; HEAD]
+    ensures { result ≡ 1 ∷ little 2 length }
+{
+    let [low, high] = length.to_le_bytes();
+    [ARRIVAL, low, high]
+}
