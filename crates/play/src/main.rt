@@ -5,13 +5,18 @@
 // SEAT is 0 or 1, N the window, 1 to 60. FILE has events: 0 and an input, or 1, a packet's length in two bytes and its bytes.
 // With `show` the picture follows each line; with `letters` the packets that this peer sends are written to OUT, as events of
 // the other's. The rules are the library's: here is only reading and printing.
+
+#![tactic(auto)]
+
 use anyhow::anyhow;
 use game::seat::Seat;
-use peer::{Outcome, Peer};
+use peer::Peer;
 use picture::{LENGTH, text_of};
-use session::Refused;
-use session::calls::{PACKET_LENGTH, begin, check_lent, draw, happen, status};
-use session::file::{arrival_head, check_events, event_at};
+use rollback::Outcome;
+use rollback_session::Refused;
+use rollback_session::calls::{PACKET_LENGTH, begin, check_lent, draw, happen, status};
+use rollback_session::file::{arrival_head, check_events, event_at};
+use std::process::ExitCode;
 use std::{env, fs};
 
 const USAGE: &str = "usage: play SEAT N FILE [show] [letters OUT]";
@@ -35,17 +40,17 @@ fn seat_of(word: &str) -> anyhow::Result<Seat> {
     match word {
         "0" => Ok(Seat::Left),
         "1" => Ok(Seat::Right),
-        _ => Err(USAGE.into()),
+        _ => Err(anyhow!(USAGE)),
     }
 }
 
 fn arguments(rt: &HostRuntime) -> anyhow::Result<Options> {
     let mut args = env::args(rt)?.skip(1);
     let (Some(seat), Some(window), Some(file)) = (args.next(), args.next(), args.next()) else {
-        return Err(USAGE.into());
+        return Err(anyhow!(USAGE));
     };
     let Ok(window) = window.as_str().parse::<usize>() else {
-        return Err(USAGE.into());
+        return Err(anyhow!(USAGE));
     };
     let mut options = Options {
         seat: seat_of(seat.as_str())?,
@@ -63,12 +68,12 @@ fn arguments(rt: &HostRuntime) -> anyhow::Result<Options> {
             match word.as_str() {
                 "show" => options.show = true,
                 "letters" => out_next = true,
-                _ => return Err(USAGE.into()),
+                _ => return Err(anyhow!(USAGE)),
             }
         }
     }
     if out_next {
-        return Err(USAGE.into());
+        return Err(anyhow!(USAGE));
     }
     Ok(options)
 }
@@ -209,13 +214,13 @@ fn run(rt: &HostRuntime) -> anyhow::Result<bool> {
     Ok(true)
 }
 
-fn main(rt: HostRuntime) -> anyhow::Result<()> {
+fn main(rt: HostRuntime) -> ExitCode {
     match run(&rt) {
-        Ok(true) => Ok(()),
-        Ok(false) => Err(anyhow!("refused")),
+        Ok(true) => ExitCode::SUCCESS,
+        Ok(false) => ExitCode::FAILURE,
         Err(e) => {
-            eprintln!(rt; "{e}")?;
-            Err(e)
+            let _ = eprintln!(rt; "{e}");
+            ExitCode::FAILURE
         }
     }
 }

@@ -4,6 +4,9 @@
 //
 // N is the window; LOSS and TWICE are out of 256; a packet comes 2 to DELAY ticks later. After TICKS ticks the radio is good for
 // 150 more. Several rows of six numbers are played one after the other. docs/RULES.md has the generator.
+
+#![tactic(auto)]
+
 use anyhow::anyhow;
 use court_game::plain::play;
 use exchange::moves::{Act, Move};
@@ -11,9 +14,10 @@ use exchange::run::{Both, Unplayed, play_moves};
 use exchange::tally::Tally;
 use game::seat::Seat;
 use peer::Peer;
-use session::calls::status;
+use rollback_session::calls::status;
 use std::alloc::{AllocError, Global};
 use std::env;
+use std::process::ExitCode;
 
 const USAGE: &str = "usage: radio SEED N TICKS LOSS TWICE DELAY ..";
 
@@ -212,6 +216,14 @@ fn difference(xs: &[u8], ys: &[u8]) -> Option<usize> {
     None
 }
 
+// So many bytes from a place on, or none where they do not lie there.
+fn part(xs: &[u8], from: usize, count: usize) -> &[u8] {
+    match xs.get(from..from.saturating_add(count)) {
+        Some(found) => found,
+        None => &[],
+    }
+}
+
 // Whether both machines have the same inputs and come to the same state, in the frames that are confirmed at both.
 fn print_agreement(rt: &HostRuntime, both: Both, left: &[u8], right: &[u8]) -> anyhow::Result<()> {
     let sure = both
@@ -220,14 +232,10 @@ fn print_agreement(rt: &HostRuntime, both: Both, left: &[u8], right: &[u8]) -> a
         .min(both.left.other)
         .min(both.right.own)
         .min(both.right.other);
-    let (a, b) = (
-        left.get(0..sure).unwrap_or(&[]),
-        right.get(INPUTS / 2..INPUTS / 2 + sure).unwrap_or(&[]),
-    );
-    let (c, d) = (
-        left.get(INPUTS / 2..INPUTS / 2 + sure).unwrap_or(&[]),
-        right.get(0..sure).unwrap_or(&[]),
-    );
+    let a = part(left, 0, sure);
+    let b = part(right, INPUTS / 2, sure);
+    let c = part(left, INPUTS / 2, sure);
+    let d = part(right, 0, sure);
     let same_state = play(a, c).state == play(b, d).state;
     match (difference(a, b), difference(c, d)) {
         (None, None) => {
@@ -293,7 +301,7 @@ fn numbers(rt: &HostRuntime) -> anyhow::Result<Vec<u64>> {
     for word in env::args(rt)?.skip(1) {
         match word.as_str().parse::<u64>() {
             Ok(n) => words.push(n)?,
-            Err(_) => return Err(USAGE.into()),
+            Err(_) => return Err(anyhow!(USAGE)),
         }
     }
     Ok(words)
@@ -302,7 +310,7 @@ fn numbers(rt: &HostRuntime) -> anyhow::Result<Vec<u64>> {
 fn run(rt: &HostRuntime) -> anyhow::Result<()> {
     let words = numbers(rt)?;
     if words.is_empty() || words.len() % 6 != 0 {
-        return Err(USAGE.into());
+        return Err(anyhow!(USAGE));
     }
     for row in words.as_slice().chunks(6) {
         if let [seed, window, ticks, loss, twice, delay] = row {
@@ -322,10 +330,12 @@ fn run(rt: &HostRuntime) -> anyhow::Result<()> {
     Ok(())
 }
 
-fn main(rt: HostRuntime) -> anyhow::Result<()> {
-    let done = run(&rt);
-    if let Err(e) = &done {
-        eprintln!(rt; "{e}")?;
+fn main(rt: HostRuntime) -> ExitCode {
+    match run(&rt) {
+        Ok(()) => ExitCode::SUCCESS,
+        Err(e) => {
+            let _ = eprintln!(rt; "{e}");
+            ExitCode::FAILURE
+        }
     }
-    done
 }

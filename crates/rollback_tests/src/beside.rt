@@ -3,9 +3,10 @@ use crate::naive::{Naive, Told, taken_for};
 use crate::random::{bytes_for, next, pick};
 use crate::trail::Trail;
 use court_game::entry::Held;
-use game::rules::Game;
+use game::saved::SavedGame;
 use game::seat::Seat;
-use peer::{Outcome, Peer};
+use peer::Peer;
+use rollback::Outcome;
 use rollback::events::{begin, receive, tick};
 use rollback::shown::shown;
 use std::alloc::Global;
@@ -21,7 +22,7 @@ fn told(outcome: Outcome) -> Told {
 }
 
 // Two states are the same where their bytes are.
-fn same_state<G: Game>(a: G, b: G) -> bool {
+fn same_state<G: SavedGame>(a: G, b: G) -> bool {
     let mut x = [0u8; 64];
     let mut y = [0u8; 64];
     a.save(&mut x);
@@ -30,7 +31,7 @@ fn same_state<G: Game>(a: G, b: G) -> bool {
 }
 
 // One random event at both; what it came to.
-fn step<G: Game>(
+fn step<G: SavedGame>(
     rt: &impl Abort,
     heap: Global,
     p: &mut Peer,
@@ -53,7 +54,7 @@ fn step<G: Game>(
 }
 
 // Both have the same and show the same.
-fn check_same<G: Game>(
+fn check_same<G: SavedGame>(
     rt: &impl Abort,
     p: &Peer,
     states: &[u8],
@@ -72,7 +73,7 @@ fn check_same<G: Game>(
     }
 }
 
-fn beside<G: Game>(
+fn beside<G: SavedGame>(
     rt: &impl Abort,
     heap: Global,
     seat: Seat,

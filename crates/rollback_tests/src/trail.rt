@@ -1,14 +1,15 @@
 // A second game, as small as one can be: its state is a number that all inputs so far have gone into, in their order.
 ghost use Rattle.std.specs.Prelude.{ℕ};
+ghost use Rattle.std.proofs.Common.{rules as found};
 ghost use Rattle.rollback_tests.specs.Trails.{trail_rules};
 
 use byte_numbers::{get_u32, put_u32};
-use game::rules::{Game, STATE_BYTES};
+use game::saved::{STATE_BYTES, SavedGame};
 
 #[derive(Clone, Copy, PartialEq, Eq, Debug)]
 pub struct Trail(pub u32);
 
-impl Game for Trail {
+impl SavedGame for Trail {
     ghost model = { ℕ };
 
     ghost rules = { trail_rules };
@@ -36,4 +37,6 @@ impl Game for Trail {
     fn load(part: &[u8]) -> Trail {
         Trail(get_u32(part, 0))
     }
+
+    ghost lawful = { Prim.search found };
 }

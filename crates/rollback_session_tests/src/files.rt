@@ -1,6 +1,6 @@
 // Files of events for tests, and tests of reading them.
-use session::file::{arrival_head, check_events, event_at};
-use session::{Happening, Refused};
+use rollback_session::file::{arrival_head, check_events, event_at};
+use rollback_session::{Happening, Refused};
 use std::alloc::{AllocError, Global};
 use std::test::*;
 

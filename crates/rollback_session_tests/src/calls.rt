@@ -1,10 +1,11 @@
 // What single calls answer, and the packets that they write.
 use court::state::Score;
 use game::seat::Seat;
-use peer::{Outcome, Peer, Refusal};
-use session::calls::{PACKET_LENGTH, begin, happen, status};
-use session::file::event_at;
-use session::{Answer, Refused, Status};
+use peer::{Peer, Refusal};
+use rollback::Outcome;
+use rollback_session::calls::{PACKET_LENGTH, begin, happen, status};
+use rollback_session::file::event_at;
+use rollback_session::{Answer, Refused, Status};
 use std::process::Abort;
 use std::test::*;
 
@@ -25,7 +26,7 @@ fn step(
 }
 
 fn check_front(rt: &impl Abort, out: &[u8; PACKET_LENGTH], front: &[u8; 14]) -> Result<(), Fail> {
-    assert_eq!(rt; &out[0..14], front);
+    assert_eq!(rt; &out[0..14], front.as_slice());
     Ok(())
 }
 

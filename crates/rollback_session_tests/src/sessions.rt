@@ -1,12 +1,14 @@
 use crate::files::{arrival, packet, tick, ticks};
 use court_game::plain::play;
 use game::seat::Seat;
-use session::whole::play_session;
-use std::test::*;
+use rollback_session::whole::play_session;
+use std::alloc::AllocGlobal;
+use std::process::Abort;
+use std::test::Fail;
 
 // The picture after a session is that of the plain game with these inputs, and the bytes behind it stay.
 fn check_picture(
-    rt: HostRuntime,
+    rt: &(impl Abort + AllocGlobal),
     seat: Seat,
     window: usize,
     file: &[u8],
@@ -25,14 +27,19 @@ fn check_picture(
         shown.as_mut_slice(),
         file,
     );
-    assert!(done.is_ok());
-    assert!(picture::draw(play(left, right), plain.as_mut_slice()).is_ok());
-    assert_eq!(shown.as_slice(), plain.as_slice());
+    assert!(rt; done.is_ok());
+    assert!(rt; picture::draw(play(left, right), plain.as_mut_slice()).is_ok());
+    assert_eq!(rt; shown.as_slice(), plain.as_slice());
     Ok(())
 }
 
 // A game of which the inputs of one seat are ticks, and those of the other come in packets, seven at a time.
-fn check_game(rt: HostRuntime, seat: Seat, left: &[u8], right: &[u8]) -> Result<(), Fail> {
+fn check_game(
+    rt: &(impl Abort + AllocGlobal),
+    seat: Seat,
+    left: &[u8],
+    right: &[u8],
+) -> Result<(), Fail> {
     let (own, other) = match seat {
         Seat::Left => (left, right),
         Seat::Right => (right, left),
@@ -50,9 +57,9 @@ fn check_game(rt: HostRuntime, seat: Seat, left: &[u8], right: &[u8]) -> Result<
 // The games whose states after the last frame are proved of the definitions, with either seat at this machine.
 #[test]
 fn games(rt: HostRuntime) -> Result<(), Fail> {
-    check_game(rt, Seat::Left, &[0; 60], &[0; 60])?;
-    check_game(rt, Seat::Right, &[0; 61], &[0; 61])?;
-    check_game(rt, Seat::Left, &[0; 100], &[0; 100])?;
+    check_game(&rt, Seat::Left, &[0; 60], &[0; 60])?;
+    check_game(&rt, Seat::Right, &[0; 61], &[0; 61])?;
+    check_game(&rt, Seat::Left, &[0; 100], &[0; 100])?;
     let first = [5u8; 10];
     let then = [10u8; 10];
     let left: Vec<u8> = first
@@ -60,10 +67,10 @@ fn games(rt: HostRuntime) -> Result<(), Fail> {
         .chain(then.iter())
         .copied()
         .collect(rt.alloc())?;
-    check_game(rt, Seat::Left, left.as_slice(), &[6; 20])?;
-    check_game(rt, Seat::Right, left.as_slice(), &[6; 20])?;
-    check_game(rt, Seat::Left, &[0; 246], &[8; 246])?;
-    check_game(rt, Seat::Right, &[0; 377], &[0; 377])
+    check_game(&rt, Seat::Left, left.as_slice(), &[6; 20])?;
+    check_game(&rt, Seat::Right, left.as_slice(), &[6; 20])?;
+    check_game(&rt, Seat::Left, &[0; 246], &[8; 246])?;
+    check_game(&rt, Seat::Right, &[0; 377], &[0; 377])
 }
 
 // Window 3, four ticks and no packet: the fourth is lost. Then a packet of which nothing was predicted right.
@@ -71,9 +78,9 @@ fn games(rt: HostRuntime) -> Result<(), Fail> {
 fn a_lost_tick_and_a_packet(rt: HostRuntime) -> Result<(), Fail> {
     let mut file = Vec::new(rt.alloc());
     ticks(&mut file, &[1; 4])?;
-    check_picture(rt, Seat::Left, 3, file.as_slice(), &[1; 3], &[0; 3])?;
+    check_picture(&rt, Seat::Left, 3, file.as_slice(), &[1; 3], &[0; 3])?;
     arrival(&mut file, packet(rt.alloc(), 0, 0, &[8; 3])?.as_slice())?;
-    check_picture(rt, Seat::Left, 3, file.as_slice(), &[1; 3], &[8; 3])
+    check_picture(&rt, Seat::Left, 3, file.as_slice(), &[1; 3], &[8; 3])
 }
 
 // The other seat, with what is refused among the events.
@@ -90,7 +97,14 @@ fn wrong_events_change_nothing(rt: HostRuntime) -> Result<(), Fail> {
     tick(&mut file, 4)?;
     tick(&mut file, 255)?;
     ticks(&mut file, &[4; 2])?;
-    check_picture(rt, Seat::Right, 60, file.as_slice(), &[8; 4], &[2, 4, 4, 4])
+    check_picture(
+        &rt,
+        Seat::Right,
+        60,
+        file.as_slice(),
+        &[8; 4],
+        &[2, 4, 4, 4],
+    )
 }
 
 // A gap, an overlap, a packet again, an old one, and one that contradicts what came before.
@@ -104,7 +118,7 @@ fn packets_join(rt: HostRuntime) -> Result<(), Fail> {
     arrival(&mut file, packet(rt.alloc(), 0, 0, &[6])?.as_slice())?;
     ticks(&mut file, &[0; 7])?;
     check_picture(
-        rt,
+        &rt,
         Seat::Left,
         2,
         file.as_slice(),
@@ -115,7 +129,7 @@ fn packets_join(rt: HostRuntime) -> Result<(), Fail> {
 
 // The number and the place that a session is refused with, by its window and the length of the lent memory; 0 and 0 where it begins.
 fn told(
-    rt: HostRuntime,
+    rt: &(impl Abort + AllocGlobal),
     window: usize,
     lent: (usize, usize, usize),
     file: &[u8],
@@ -134,7 +148,7 @@ fn told(
         Ok(_) => Ok((0, 0)),
         Err(f) => {
             let untouched = (inputs.first().copied(), picture.first().copied());
-            assert!(untouched.0.unwrap_or(7) == 7 && untouched.1.unwrap_or(9) == 9);
+            assert!(rt; untouched.0.unwrap_or(7) == 7 && untouched.1.unwrap_or(9) == 9);
             Ok((f.number(), f.place()))
         }
     }
@@ -146,32 +160,32 @@ fn refusals(rt: HostRuntime) -> Result<(), Fail> {
     let mut file = Vec::new(rt.alloc());
     ticks(&mut file, &[1; 3])?;
     assert_eq!(rt;
-        told(rt, 1, (2_000_000, 128, 19200), file.as_slice())?,
+        told(&rt, 1, (2_000_000, 128, 19200), file.as_slice())?,
         (0, 0)
     );
     file.push(2)?;
     assert_eq!(rt;
-        told(rt, 1, (2_000_000, 128, 19200), file.as_slice())?,
+        told(&rt, 1, (2_000_000, 128, 19200), file.as_slice())?,
         (4, 6)
     );
     assert_eq!(rt;
-        told(rt, 1, (2_000_000, 128, 19199), file.as_slice())?,
+        told(&rt, 1, (2_000_000, 128, 19199), file.as_slice())?,
         (5, 3)
     );
     assert_eq!(rt;
-        told(rt, 1, (2_000_000, 127, 19199), file.as_slice())?,
+        told(&rt, 1, (2_000_000, 127, 19199), file.as_slice())?,
         (5, 2)
     );
     assert_eq!(rt;
-        told(rt, 1, (1_999_999, 127, 19199), file.as_slice())?,
+        told(&rt, 1, (1_999_999, 127, 19199), file.as_slice())?,
         (5, 1)
     );
     assert_eq!(rt;
-        told(rt, 61, (1_999_999, 127, 19199), file.as_slice())?,
+        told(&rt, 61, (1_999_999, 127, 19199), file.as_slice())?,
         (5, 0)
     );
     assert_eq!(rt;
-        told(rt, 0, (1_999_999, 127, 19199), file.as_slice())?,
+        told(&rt, 0, (1_999_999, 127, 19199), file.as_slice())?,
         (5, 0)
     );
     Ok(())

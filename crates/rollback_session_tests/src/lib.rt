@@ -1,5 +1,7 @@
 // Tests of a session: events in files, what calls answer and write, pictures of what a peer shows.
 
+#![tactic(auto)]
+
 #[cfg(test)]
 mod calls;
 #[cfg(test)]

@@ -1,7 +1,0 @@
-// Theorems about the plain game of any game, each on the contract of a function.
-ghost use Rattle.game.specs.Plain.{FromSaved};
-
-// Playing on from a state on the way is playing from the beginning, for the states of every type.
-pub fn from_saved<S>()
-    ensures { FromSaved S }
-{}

@@ -1,3 +1,0 @@
-pub mod Logs
-pub mod Happens
-pub mod Shows

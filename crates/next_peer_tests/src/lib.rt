@@ -1,4 +1,0 @@
-// Tests of a peer's log over lent memory, of what it sends, and of refusals.
-
-#[cfg(test)]
-mod logs;
