@@ -31,11 +31,11 @@ pub record Begun (seat : Seat) (window : ℕ) (p : Peer) (inputs : List ℕ) : T
   pub log_is : log_of p inputs ≡ new_log
 
 -- what an event does to a peer's numbers and its lent memory
-pub record Happened (fits : ℕ → Bool) (p : Peer) (inputs : List ℕ) (e : Event) (q : Peer) (after-inputs : List ℕ) : Type 0 where
+pub record Happened (fits : ℕ → Bool) (p : Peer) (inputs : List ℕ) (e : Event) (q : Peer) (after_inputs : List ℕ) : Type 0 where
   pub window_same : q.window ≡ p.window
   pub seat_same : q.seat ≡ p.seat
-  pub length_same : length after-inputs ≡ length inputs
-  pub does : Long inputs → log_of q after-inputs ≡ event fits p.window (log_of p inputs) e
+  pub length_same : length after_inputs ≡ length inputs
+  pub does : Long inputs → log_of q after_inputs ≡ event fits p.window (log_of p inputs) e
 
 -- ---- the game by inputs as functions of the frame
 

@@ -26,7 +26,7 @@ fn take(rt: &impl Abort, p: &mut Peer, inputs: &mut [u8], bytes: &[u8]) -> Resul
 
 // A gap, an overlap, a packet again, and one that contradicts what came before.
 #[test]
-fn joins(rt: HostRuntime) -> Result<(), Fail> {
+fn log_joins(rt: HostRuntime) -> Result<(), Fail> {
     let mut inputs = vec![in rt.alloc(); 7u8; 2_000_000]?;
     let mut p = Peer {
         seat: Seat::Left,
@@ -51,7 +51,7 @@ fn joins(rt: HostRuntime) -> Result<(), Fail> {
 
 // The packet that is sent begins at the most that was acknowledged, and has at most 120 inputs.
 #[test]
-fn sends(rt: HostRuntime) -> Result<(), Fail> {
+fn log_sends(rt: HostRuntime) -> Result<(), Fail> {
     let inputs = vec![in rt.alloc(); 7u8; 2_000_000]?;
     let few = Peer {
         seat: Seat::Left,

@@ -1,6 +1,6 @@
 // A session at one machine, of the court's game: it begins over lent memory, takes one event at a call,
 // and draws what the peer shows as a picture. Nothing is allocated.
-// Rests on court_game, game, peer and picture.
+// Rests on byte_numbers, court, court_game, game, packet, peer, picture and rollback.
 
 #![tactic(auto)]
 

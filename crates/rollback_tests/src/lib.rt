@@ -1,6 +1,6 @@
 // Tests of the peer that goes back: the court and a second small game over lent memory,
 // by examples, and by random events beside a peer that plays from the start each time.
-// Rests on bytes, court, court_game, game, packet, peer and rollback.
+// Rests on byte_numbers, court, court_game, game, packet, peer and rollback.
 
 #![tactic(auto)]
 
