@@ -4,12 +4,12 @@ use rollback_session::{Happening, Refused};
 use std::alloc::{AllocError, Global};
 use std::test::*;
 
-pub fn tick(file: &mut Vec<u8>, input: u8) -> Result<(), Fail> {
+pub(crate) fn tick(file: &mut Vec<u8>, input: u8) -> Result<(), Fail> {
     file.extend_from_slice(&[0, input])?;
     Ok(())
 }
 
-pub fn ticks(file: &mut Vec<u8>, inputs: &[u8]) -> Result<(), Fail> {
+pub(crate) fn ticks(file: &mut Vec<u8>, inputs: &[u8]) -> Result<(), Fail> {
     for input in inputs {
         tick(file, *input)?;
     }
@@ -17,14 +17,19 @@ pub fn ticks(file: &mut Vec<u8>, inputs: &[u8]) -> Result<(), Fail> {
 }
 
 // Bytes that come, at most 65,535.
-pub fn arrival(file: &mut Vec<u8>, bytes: &[u8]) -> Result<(), Fail> {
+pub(crate) fn arrival(file: &mut Vec<u8>, bytes: &[u8]) -> Result<(), Fail> {
     file.extend_from_slice(&arrival_head(u16::try_from(bytes.len())?))?;
     file.extend_from_slice(bytes)?;
     Ok(())
 }
 
 // A packet's bytes, by its first frame, its acknowledgement and at most 255 inputs, right or wrong.
-pub fn packet(heap: Global, first: u32, ack: u8, inputs: &[u8]) -> Result<Vec<u8>, AllocError> {
+pub(crate) fn packet(
+    heap: Global,
+    first: u32,
+    ack: u8,
+    inputs: &[u8],
+) -> Result<Vec<u8>, AllocError> {
     let mut bytes = Vec::new(heap);
     bytes.push(b'H')?;
     bytes.extend_from_slice(&first.to_le_bytes())?;

@@ -22,7 +22,7 @@ pub struct Naive {
 }
 
 // The input that is taken for a frame: what came, else the last that came, or 0.
-pub fn taken_for(other: &[u8], frame: usize) -> u8 {
+pub(crate) fn taken_for(other: &[u8], frame: usize) -> u8 {
     if frame < other.len() {
         return other[frame];
     }
@@ -56,7 +56,7 @@ fn fields(bytes: &[u8]) -> Option<(usize, usize)> {
 }
 
 impl Naive {
-    pub fn new(heap: Global, seat: Seat, window: usize) -> Naive {
+    pub(crate) fn new(heap: Global, seat: Seat, window: usize) -> Naive {
         Naive {
             seat,
             window,
@@ -66,7 +66,7 @@ impl Naive {
         }
     }
 
-    pub fn tick(&mut self, input: u8) -> Result<Told, Fail> {
+    pub(crate) fn tick(&mut self, input: u8) -> Result<Told, Fail> {
         if input > 15 {
             return Ok(Told::Refused);
         }
@@ -78,7 +78,7 @@ impl Naive {
         Ok(Told::Taken(1))
     }
 
-    pub fn receive(&mut self, bytes: &[u8]) -> Result<Told, Fail> {
+    pub(crate) fn receive(&mut self, bytes: &[u8]) -> Result<Told, Fail> {
         let Some((first, ack)) = fields(bytes) else {
             return Ok(Told::Refused);
         };
@@ -109,7 +109,7 @@ impl Naive {
         0
     }
 
-    pub fn shows<G: SavedGame>(&self) -> G {
+    pub(crate) fn shows<G: SavedGame>(&self) -> G {
         let mut state = G::start();
         for (frame, own) in self.own.as_slice().iter().enumerate() {
             let other = taken_for(self.other.as_slice(), frame);

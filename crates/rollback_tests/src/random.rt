@@ -2,12 +2,12 @@
 use std::alloc::Global;
 use std::test::Fail;
 
-pub fn next(seed: u32) -> u32 {
+pub(crate) fn next(seed: u32) -> u32 {
     seed.wrapping_mul(1_664_525).wrapping_add(1_013_904_223)
 }
 
 // A number below `most`, from the upper bits, which are the better ones.
-pub fn pick(seed: u32, most: u8) -> u8 {
+pub(crate) fn pick(seed: u32, most: u8) -> u8 {
     if most == 0 {
         0
     } else {
@@ -46,7 +46,7 @@ fn packet(heap: Global, first: usize, ack: usize, last: u8, seed: u32) -> Result
 
 // Bytes for a peer that has so many inputs of its own and of the other: mostly a packet that joins on, with an overlap that may
 // contradict what came; else one with a gap, a wrong acknowledgement, an input too large, or of a wrong length.
-pub fn bytes_for(
+pub(crate) fn bytes_for(
     heap: Global,
     own: usize,
     other: usize,
