@@ -1,5 +1,9 @@
 // A row of moves at two machines, from the beginning.
-ghost use Rattle.std.specs.Prelude.{◌≡◌, ℕ, ◌≤◌, List, IfOk, nat_le};
+ghost use Rattle.std.specs.Prelude.{◌≡◌, ℕ, ◌≤◌, ◌⊎◌, List, length, Err, IfOk, nat_le};
+ghost use Rattle.rollback.specs.Said.{begin_checked};
+ghost use Rattle.rollback_session.specs.Refusals.{said_begun};
+ghost use Rattle.rollback_session.specs.declared.refused.Refused.{Refused as Faults};
+ghost use Rattle.exchange.specs.declared.run.Unplayed.TheVariants.{Refused as Unbegun, NoMemory};
 ghost use Rattle.game.specs.declared.seat.Seat.TheVariants.{Left, Right};
 ghost use Rattle.game.specs.declared.seat.Seat.{Seat as At};
 ghost use Rattle.network.specs.Network.{Turn};
@@ -38,12 +42,16 @@ pub enum Unplayed {
 }
 
 impl From<AllocError> for Unplayed {
+    ghost from_gives = { λ _ e. e ≡ NoMemory };
+
     fn from(_e: AllocError) -> Unplayed {
         Unplayed::NoMemory
     }
 }
 
 impl From<Refused> for Unplayed {
+    ghost from_gives = { λ f e. e ≡ Unbegun f };
+
     fn from(f: Refused) -> Unplayed {
         Unplayed::Refused(f)
     }
@@ -62,6 +70,7 @@ pub fn play_moves(
     picture: &[u8],
     row: &[Move],
 ) -> Result<Both, Unplayed>
+    ensures refused { (f : Faults) → result ≡ Err (Unbegun f) → (said_begun (begin_checked window (length left_inputs.old) (length left_states.old)) (length picture.now) ≡ Err f) ⊎ (said_begun (begin_checked window (length right_inputs.old) (length right_states.old)) (length picture.now) ≡ Err f) }
     ensures left { IfOk result (λ b. PeerAt window (after_moves window row.now) Left (memory b.left left_inputs.new left_states.new)) }
     ensures right { IfOk result (λ b. PeerAt window (after_moves window row.now) Right (memory b.right right_inputs.new right_states.new)) }
     ensures agree { IfOk result (λ b. Agree window (log_of b.left left_inputs.new) (log_of b.right right_inputs.new)) }

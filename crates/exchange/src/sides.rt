@@ -1,5 +1,5 @@
 // One of the two machines: a tick with the packet that it writes, and a packet that comes.
-ghost use Rattle.std.specs.Prelude.{◌≡◌, ℕ, List, Some, OnOk, ◌≢◌};
+ghost use Rattle.std.specs.Prelude.{◌≡◌, ℕ, List, Some, length, is_some, OnOk, ◌≢◌, nat_lt};
 ghost use Rattle.game.specs.declared.seat.Seat.{Seat as At};
 ghost use Rattle.network.specs.Network.{Network, Turn, facing};
 ghost use Rattle.rollback.specs.declared.outcome.Outcome.TheVariants.{Refused};
@@ -51,6 +51,7 @@ pub fn deliver_to(
     packets: &[Sent],
     number: usize,
 ) -> Option<Outcome>
+    ensures there { is_some result ≡ nat_lt number (length packets.now) }
     ensures at { (window : ℕ) (n : Network) (seat : At) → PeerAt window n seat (memory p.old inputs.old states.old) → PacketsAt n seat packets.now → PeerAt window (acted window n seat (Deliver number)) seat (memory p.new inputs.new states.new) }
     ensures taken { (window : ℕ) (ts : List Turn) (seat : At) → PeerAt window (court_network window ts) seat (memory p.old inputs.old states.old) → PacketsAt (court_network window ts) seat packets.now → (f : Refusal) → result ≢ Some (Refused f) }
 {

