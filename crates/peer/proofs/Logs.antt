@@ -7,10 +7,15 @@ use Rattle.std.proofs.lemmas.Bool.{cases_lt}
 use Rattle.packet.specs.Wire.{Message}
 use Rattle.peer.specs.declared.numbers.Peer.{Peer}
 use Rattle.peer.specs.Lent.{Long, log_of}
-use Rattle.peer.specs.Peers.{Log, joined}
+use Rattle.peer.specs.Peers.{Log, new_log, joined}
 
 pub log_same : (x x' y y' : List ℕ) (a a' : ℕ) → x ≡ x' → y ≡ y' → a ≡ a' → ◌≡◌ {A = Log} (record { own = x; other = y; acked = a }) (record { own = x'; other = y'; acked = a' })
 log_same x x' y y' a a' e f g = cc
+
+-- without inputs it is the new log
+pub log_new : (p : Peer) (inputs : List ℕ) → p.own ≡ 0 → p.other ≡ 0 → p.acked ≡ 0 → log_of p inputs ≡ new_log
+unfolding log_of
+log_new p inputs e f g = simp (e, f, g)
 
 pub own_long : (p : Peer) (inputs : List ℕ) → Long inputs → length (log_of p inputs).own ≡ p.own
 unfolding log_of

@@ -1,3 +1,4 @@
+pub mod Windows
 pub mod Peers
 pub mod Lent
 pub mod Said

@@ -9,51 +9,25 @@ use crate::log::{HALF, join, push_own};
 use crate::numbers::Peer;
 use crate::outcome::{Outcome, Refusal};
 use game::rules::Game;
+use game::saved::STATE_BYTES;
 use game::seat::Seat;
 use packet::Packet;
-
-const MOST_WINDOW: usize = 60;
-
-// Bytes of a saved state.
-const STATE: usize = 64;
-
-fn is_window(window: usize) -> bool
-    ensures value { result ≡ not (nat_lt window 1 || nat_lt 60 window) }
-    ensures within { result ≡ true → (1 ≤ window) × (window ≤ 60) }
-{
-    1 <= window && window <= MOST_WINDOW
-}
 
 // A new peer, or why there is none: the window, the lent inputs or the lent states.
 pub fn begin(seat: Seat, window: usize, inputs: &[u8], states: &[u8]) -> Result<Peer, Refusal>
     ensures answer { as_checked result ≡ begin_checked window (length inputs.now) (length states.now) }
     ensures begun { IfOk result (λ p. Begun seat window p inputs.now) }
 {
-    if !is_window(window) {
-        return Err(Refusal::Window);
-    }
+    let p = Peer::new(seat, window)?;
     let short = inputs.len() < 2 * HALF;
     if short {
         return Err(Refusal::Inputs);
     }
-    let few = states.len() < (window + 1) * STATE;
+    let few = states.len() < (window + 1) * STATE_BYTES;
     if few {
         return Err(Refusal::States);
     }
-    Ok(Peer {
-        seat,
-        window,
-        own: 0,
-        other: 0,
-        acked: 0,
-    })
-}
-
-// Whether a tick plays a frame.
-fn may_play(p: &Peer) -> bool
-    ensures { result ≡ (nat_lt p.now.own 1000000 && nat_lt p.now.own (p.now.other + p.now.window)) }
-{
-    p.own < HALF && p.own < p.other + p.window
+    Ok(p)
 }
 
 // A frame's time, with the input at the peer's own seat.
@@ -69,7 +43,7 @@ pub fn tick<G: Game>(p: &mut Peer, inputs: &mut [u8], input: u8) -> Outcome
     if !G::fits(input) {
         return Outcome::Refused(Refusal::Input);
     }
-    if !may_play(p) {
+    if !p.may_play() {
         return Outcome::Lost;
     }
     push_own(p, inputs, input);

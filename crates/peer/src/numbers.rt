@@ -1,7 +1,12 @@
 // A peer's numbers. Its inputs lie in lent memory.
-ghost use Rattle.std.specs.Prelude.{◌+◌, ◌≤◌};
+ghost use Rattle.std.specs.Prelude.{◌≡◌, ◌+◌, ◌≤◌, min, ◌&&◌, Ok, Err, IfOk, MatchResult, nat_lt};
+ghost use Rattle.peer.specs.Windows.{window_checked};
 
+use crate::log::HALF;
+use crate::outcome::Refusal;
 use game::seat::Seat;
+
+const MOST_WINDOW: usize = 60;
 
 #[derive(Clone, Copy)]
 pub struct Peer {
@@ -17,4 +22,46 @@ pub struct Peer {
     ghost few: { (own ≤ 1000000) × (other ≤ 1000000) },
     ghost ahead: { own ≤ other + window },
     ghost made: { acked ≤ own },
+}
+
+// Whether a peer may have such a window.
+pub fn check_window(window: usize) -> Result<(), Refusal>
+    ensures { result ≡ window_checked window }
+{
+    if (1..=MOST_WINDOW).contains(&window) {
+        Ok(())
+    } else {
+        Err(Refusal::Window)
+    }
+}
+
+impl Peer {
+    // A peer that has no inputs yet, or none where it may not have such a window.
+    pub fn new(seat: Seat, window: usize) -> Result<Peer, Refusal>
+        ensures answer { MatchResult result (λ _. window_checked window ≡ Ok tt) (λ f. window_checked window ≡ Err f) }
+        ensures new { IfOk result (λ p. (p.seat ≡ seat) × (p.window ≡ window) × (p.own ≡ 0) × (p.other ≡ 0) × (p.acked ≡ 0)) }
+    {
+        check_window(window)?;
+        Ok(Peer {
+            seat,
+            window,
+            own: 0,
+            other: 0,
+            acked: 0,
+        })
+    }
+
+    // Whether a tick plays a frame.
+    pub fn may_play(&self) -> bool
+        ensures { result ≡ (nat_lt self.now.own 1000000 && nat_lt self.now.own (self.now.other + self.now.window)) }
+    {
+        self.own < HALF && self.own < self.other + self.window
+    }
+
+    // Of how many frames it has both inputs.
+    pub fn confirmed(&self) -> usize
+        ensures { result ≡ min self.now.own self.now.other }
+    {
+        self.own.min(self.other)
+    }
 }

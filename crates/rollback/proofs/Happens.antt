@@ -9,6 +9,7 @@ use Rattle.peer.specs.declared.outcome.Refusal.TheVariants.{Input}
 use Rattle.rollback.specs.declared.outcome.Outcome.TheVariants.{Taken, Lost, Refused}
 use Rattle.peer.specs.Lent.{Long, log_of, with_own}
 use Rattle.peer.specs.Peers.{Log, tick, arrival, goes_on, heard, event}
+use Rattle.peer.specs.Windows.{window_checked}
 use Rattle.rollback.specs.Said.{memory_checked, begin_checked, said_tick, said_read, said_arrival}
 use Rattle.peer.proofs.Logs.{own_long, other_long}
 
@@ -57,7 +58,14 @@ arrival_read fits window inputs states log xs own r e n s =
     let t : reading (length log.own) xs ≡ r = ap (λ k. reading k xs) n ∙ sym s in
     (simp (d, t), ap (heard log) t)
 
--- a peer that may begin has memory enough
-pub begun_room : (window inputs states : ℕ) → ◌≡◌ {A = Result (Unit {0}) Refusal} (Ok tt) (begin_checked window inputs states) → (2000000 ≤ inputs) × ((window + 1) * 64 ≤ states)
+-- ---- beginnings
+
+-- with a window that is refused a peer does not begin
+pub begin_window : (window inputs states : ℕ) (f : Refusal) → window_checked window ≡ Err f → begin_checked window inputs states ≡ Err f
 unfolding begin_checked
-begun_room window inputs states e = (grind (arith, nat_tests), grind (arith, nat_tests))
+begin_window window inputs states f e = grind (arith, nat_tests)
+
+-- and with another all depends on memory
+pub begin_memory : (window inputs states : ℕ) → window_checked window ≡ Ok tt → begin_checked window inputs states ≡ memory_checked window inputs states
+unfolding begin_checked
+begin_memory window inputs states e = grind (arith, nat_tests)

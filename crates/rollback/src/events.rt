@@ -15,26 +15,16 @@ use crate::slots::{load_at, save_at, slot_of};
 use game::saved::SavedGame;
 use game::seat::Seat;
 use packet::Packet;
-use peer::log::{HALF, push_own};
+use peer::log::push_own;
+use peer::numbers::check_window;
 use peer::{Peer, Refusal};
-
-const MOST_WINDOW: usize = 60;
-
-fn is_window(window: usize) -> bool
-    ensures value { result ≡ not (nat_lt window 1 || nat_lt 60 window) }
-    ensures within { result ≡ true → (1 ≤ window) × (window ≤ 60) }
-{
-    1 <= window && window <= MOST_WINDOW
-}
 
 // Whether a peer may begin, or why not: the window, the lent inputs or the lent states.
 pub fn check_begin(window: usize, inputs: &[u8], states: &[u8]) -> Result<(), Refusal>
     ensures answer { result ≡ begin_checked window (length inputs.now) (length states.now) }
     ensures within { result ≡ Ok tt → (1 ≤ window) × (window ≤ 60) }
 {
-    if !is_window(window) {
-        return Err(Refusal::Window);
-    }
+    check_window(window)?;
     check_memory(window, inputs, states)
 }
 
@@ -51,24 +41,10 @@ pub fn begin<G: SavedGame>(
     ensures behind { Behind 1 states.old states.new }
     ensures idle { is_err result ≡ true → states.new ≡ states.old }
 {
-    if let Err(refusal) = check_begin(window, inputs, states) {
-        return Err(refusal);
-    }
+    let p = Peer::new(seat, window)?;
+    check_memory(window, inputs, states)?;
     save_at(states, 0, G::start());
-    Ok(Peer {
-        seat,
-        window,
-        own: 0,
-        other: 0,
-        acked: 0,
-    })
-}
-
-// Whether a tick plays a frame.
-fn may_play(p: &Peer) -> bool
-    ensures { result ≡ (nat_lt p.now.own 1000000 && nat_lt p.now.own (p.now.other + p.now.window)) }
-{
-    p.own < HALF && p.own < p.other + p.window
+    Ok(p)
 }
 
 // One frame more, with an input of its own. Hands back how many frames it played.
@@ -105,7 +81,7 @@ pub fn tick<G: SavedGame>(p: &mut Peer, inputs: &mut [u8], states: &mut [u8], in
     if !G::fits(input) {
         return Outcome::Refused(Refusal::Input);
     }
-    if !may_play(p) {
+    if !p.may_play() {
         return Outcome::Lost;
     }
     Outcome::Taken(go_on::<G>(p, inputs, states, input))

@@ -20,7 +20,7 @@ fn first_wrong(p: &Peer, inputs: &[u8], came: usize) -> usize
     ensures right { (i : ℕ) → came ≤ i → i < result → i < p.now.other → slice_index inputs.now (1000000 + i) ≡ other_at came inputs.now i }
     ensures wrong { result < p.now.own → slice_index inputs.now (1000000 + result) ≢ other_at came inputs.now result }
 {
-    let end = p.own.min(p.other);
+    let end = p.confirmed();
     for frame in came..end {
         let right = inputs[HALF + frame] == other_input(inputs, came, frame);
         if !right {

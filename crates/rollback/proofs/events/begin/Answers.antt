@@ -1,48 +1,61 @@
-use Rattle.std.proofs.Common.{◌≡◌, ◌+◌, ◌%◌, ◌≤◌, length, get_or, sym, refl, ap, ◌∙◌, arith, rules}
+use Rattle.std.proofs.Common.{◌≡◌, ℕ, ◌+◌, ◌%◌, ◌≤◌, min, length, get_or, sym, ap, ◌∙◌, arith, rules}
 use native.Mathlib.Nat.{zero-mod}
-use Rattle.std.proofs.lemmas.Bool.{false≢true}
-use Rattle.peer.specs.Lent.{log_of, seated, after}
-use Rattle.rollback.proofs.Happens.{begun_room}
+use Rattle.peer.specs.Lent.{seated, after}
+use Rattle.rollback.proofs.Happens.{checked_room, begin_window, begin_memory}
+use Rattle.peer.proofs.Logs.{log_new}
 use Rattle.peer.proofs.Shows.{after_none}
 use Rattle.rollback.specs.Saved.{slot}
 use Rattle.rollback.proofs.Bytes.{slot_same, slot_behind}
-use Rattle.rollback.proofs.Windows.{saved_one}
+use Rattle.rollback.proofs.Windows.{saved_one, saved_as}
 use Rattle.rollback.proofs.events.begin.Goals as goal
 
-pub returns-in-Err : goal.returns-in-Err
-returns-in-Err g c = record { answer = c.in-Err.ensures.answer; begun = tt; behind = λ i _. refl; idle = λ _. refl }
+pub returns-in_err-p-clause-answer : goal.returns-in_err-p-clause-answer
+returns-in_err-p-clause-answer g c =
+    let e = begin_window c.args.window (length c.args.inputs.now) (length c.args.states.now) _ c.in_err-p.ensures.answer in
+    grind arith
 
-pub returns : goal.returns
-unfolding log_of
-returns g c =
+pub returns-in_err-check_memory-clause-answer : goal.returns-in_err-check_memory-clause-answer
+returns-in_err-check_memory-clause-answer g c =
+    let e = begin_memory c.args.window (length c.args.inputs.now) (length c.args.states.now) c.in_ok-p.ensures.answer in
+    grind arith
+
+pub returns-clause-answer : goal.returns-clause-answer
+returns-clause-answer g c = c.in_ok-check_memory.ensures ∙ sym (begin_memory _ _ _ c.in_ok-p.ensures.answer)
+
+pub returns-clause-begun : goal.returns-clause-begun
+returns-clause-begun g c =
     let r = g.G.SavedGame.rules in
     let law = g.met.G.SavedGame.lawful in
     let window = c.args.window in
     let seat = c.args.seat in
+    let p = c.in_ok-p.p in
     let xs = c.args.inputs.now in
     let states = c.args.states.now in
+    let saved = c.save_at.new.states in
     let s = g.G.SavedGame.seen c.start.result in
-    let room = begun_room window (length xs) (length states) c.in_default.ensures.answer in
+    let (seat_is, window_is, own, other, acked) = c.in_ok-p.ensures.new in
+    let room = checked_room window (length xs) (length states) c.in_ok-check_memory.ensures in
     let few : 64 ≤ length states = omega (arith, room.1) in
-    let first : slot c.save_at.new.states (0 % (window + 1)) ≡ r.coded (after (seated seat r.game) xs 0 0) =
-    ap (slot c.save_at.new.states) (zero-mod (window + 1))
+    let first : slot saved (0 % (window + 1)) ≡ r.coded (after (seated seat r.game) xs 0 0) =
+    ap (slot saved) (zero-mod (window + 1))
     ∙ ap (λ zs. slot zs 0) c.save_at.ensures
     ∙ slot_same states (r.coded s) 0 few (law.long s)
     ∙ ap r.coded (c.start.ensures ∙ sym (after_none seat r.game xs 0)) in
+    let one = saved_one r seat window xs 0 saved 0 first in
+    let none : (k : ℕ) → k ≤ p.own → after (seated seat r.game) xs 0 k ≡ after (seated seat r.game) xs p.other k = λ k _. ap (λ b. after (seated seat r.game) xs b k) (sym other) in
     record {
-      answer = c.in_default.ensures.answer;
-      begun = record {
-        seat_is = refl;
-        window_is = refl;
-        roomy = record { inputs_long = room.0; states_long = search rules };
-        log_is = refl;
-        kept = saved_one r seat window xs 0 c.save_at.new.states 0 first;
-      };
-      behind = λ i h. ap (λ zs. get_or zs i 0) c.save_at.ensures ∙ slot_behind states (r.coded s) 0 1 (omega arith) few (law.long s) i h;
-      idle = λ e. absurd (false≢true e);
+      seat_is = seat_is;
+      window_is = window_is;
+      roomy = record { inputs_long = room.0; states_long = search rules };
+      log_is = log_new p xs own other acked;
+      kept = saved_as r seat p.seat window p.window xs xs 0 p.other saved 0 (min p.own p.other) 0 p.own seat_is window_is (omega arith) (omega (arith, own)) none one;
     }
 
-pub save_at-requires : goal.save_at-requires
-save_at-requires g c =
-    let room = begun_room c.args.window _ _ c.in_default.ensures.answer in
-    omega (arith, room.1)
+pub returns-clause-behind : goal.returns-clause-behind
+returns-clause-behind g c =
+    let r = g.G.SavedGame.rules in
+    let law = g.met.G.SavedGame.lawful in
+    let states = c.args.states.now in
+    let s = g.G.SavedGame.seen c.start.result in
+    let room = checked_room c.args.window _ (length states) c.in_ok-check_memory.ensures in
+    λ i h. ap (λ zs. get_or zs i 0) c.save_at.ensures ∙ slot_behind states (r.coded s) 0 1 (omega arith) (omega (arith, room.1)) (law.long s) i h
