@@ -1,8 +1,8 @@
 -- States and their bytes. Assumes nothing.
-use Rattle.std.proofs.Common.{◌≡◌, ◌^◌, ℤ, pos, neg_ℤ, refl, ap, ◌∙◌, arith}
+use Rattle.std.proofs.Common.{◌≡◌, ◌^◌, ℤ, pos, neg_ℤ, refl, arith}
 use Rattle.std.proofs.lemmas.Int.{ints}
-use Rattle.byte_numbers.specs.Little.{number_of, complement, signed_of}
-use Rattle.byte_numbers.proofs.Numbers.{number_little, complement_small, signed_complement}
+use Rattle.byte_numbers.specs.Little.{number_of, signed_of}
+use Rattle.byte_numbers.specs.Numbers.{signed_little}
 use Rattle.court.specs.declared.state.State.{State}
 use Rattle.court.specs.Bounds.{Within, InCourt}
 use Rattle.court.proofs.Ranges.{ball_from, paddle_from, state_from}
@@ -10,9 +10,7 @@ use Rattle.court_game.specs.Snapshots.{whole_bytes, state_bytes, state_in}
 
 -- every number in the court is below 2 ^ 16, and four bytes hold it
 whole_back : (z : ℤ) → Within (neg_ℤ (pos (2 ^ 16))) (pos (2 ^ 16)) z → signed_of (number_of (whole_bytes z)) ≡ z
-whole_back z h =
-    ap signed_of (number_little 4 (complement z) (complement_small z (omega (arith, ints)) (omega (arith, ints))))
-    ∙ signed_complement z (omega (arith, ints)) (omega (arith, ints))
+whole_back z h = signed_little z (omega (arith, ints)) (omega (arith, ints))
 
 -- a state of the court is read from its bytes
 pub state_back : (s : State) → InCourt s → state_in (state_bytes s) ≡ s

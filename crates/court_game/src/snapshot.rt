@@ -5,7 +5,7 @@ ghost use Rattle.court.specs.declared.state.State.{State as Plain};
 ghost use Rattle.court.specs.Bounds.{InCourt, clamped_in};
 ghost use Rattle.court_game.specs.Snapshots.{ball_bytes, paddle_bytes, state_bytes, ball_in, paddle_in, state_in};
 
-use byte_numbers::{get_i32, put_i32};
+use byte_numbers::LittleEndian;
 use court::state::{Ball, Paddle, Score};
 use court::{Court, State};
 
@@ -24,18 +24,18 @@ fn put_ball(part: &mut [u8], ball: Ball)
     requires { 16 ≤ length part.old }
     ensures { part.new ≡ overwritten part.old 0 (ball_bytes ball) }
 {
-    put_i32(part, 0, ball.x);
-    put_i32(part, 4, ball.y);
-    put_i32(part, 8, ball.dx);
-    put_i32(part, 12, ball.dy);
+    ball.x.put(part, 0);
+    ball.y.put(part, 4);
+    ball.dx.put(part, 8);
+    ball.dy.put(part, 12);
 }
 
 fn put_paddle(part: &mut [u8], at: usize, paddle: Paddle)
     requires { at + 8 ≤ length part.old }
     ensures { part.new ≡ overwritten part.old at (paddle_bytes paddle) }
 {
-    put_i32(part, at, paddle.x);
-    put_i32(part, at + 4, paddle.y);
+    paddle.x.put(part, at);
+    paddle.y.put(part, at + 4);
 }
 
 // Writes a state's bytes.
@@ -56,10 +56,10 @@ fn get_ball(part: &[u8]) -> Ball
     ensures { result ≡ ball_in part.now }
 {
     Ball {
-        x: get_i32(part, 0),
-        y: get_i32(part, 4),
-        dx: get_i32(part, 8),
-        dy: get_i32(part, 12),
+        x: i32::get(part, 0),
+        y: i32::get(part, 4),
+        dx: i32::get(part, 8),
+        dy: i32::get(part, 12),
     }
 }
 
@@ -68,8 +68,8 @@ fn get_paddle(part: &[u8], at: usize) -> Paddle
     ensures { result ≡ paddle_in part.now at }
 {
     Paddle {
-        x: get_i32(part, at),
-        y: get_i32(part, at + 4),
+        x: i32::get(part, at),
+        y: i32::get(part, at + 4),
     }
 }
 

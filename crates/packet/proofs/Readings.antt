@@ -2,7 +2,7 @@
 use Rattle.std.proofs.Common.{◌≡◌, ℕ, ◌^◌, ◌<◌, true, List, ◌∷◌, ◌++◌, length, get_or, take, drop, is_err, Ok, Err, Result, sym, refl, ap, ◌∙◌, subst, arith, length-drop}
 use Rattle.std.proofs.lemmas.List.{drop_more, take_all}
 use Rattle.byte_numbers.specs.Little.{little, part}
-use Rattle.byte_numbers.proofs.Numbers.{number_little}
+use Rattle.byte_numbers.specs.Numbers.{number_little}
 use Rattle.byte_numbers.proofs.Places.{little_part, part_rest}
 use Rattle.packet.specs.declared.fault.Fault.{Fault}
 use Rattle.packet.specs.Inputs.{first_bad}

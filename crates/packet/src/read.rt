@@ -6,7 +6,7 @@ ghost use Rattle.packet.specs.Wire.{Proper, message_of, message_bytes, start_che
 use crate::fault::Fault;
 use crate::message::Packet;
 use crate::{ACK_AT, COUNT_AT, FIRST_AT, INPUTS_AT, LARGEST_INPUT, MARK, MOST_FRAMES, MOST_INPUTS};
-use byte_numbers::get_u32;
+use byte_numbers::LittleEndian;
 
 // Where the first byte stands that is no input, or how many there are.
 fn find_bad(inputs: &[u8]) -> usize
@@ -37,7 +37,7 @@ fn check_start(packet: &[u8]) -> Result<(), Fault>
         return Err(Fault::CutShort(packet.len()));
     }
     let count = packet[COUNT_AT];
-    let past_end = u64::from(get_u32(packet, FIRST_AT)) + u64::from(count) > MOST_FRAMES;
+    let past_end = u64::from(u32::get(packet, FIRST_AT)) + u64::from(count) > MOST_FRAMES;
     if past_end {
         return Err(Fault::PastEnd);
     }
@@ -57,7 +57,7 @@ fn check_rest(packet: &[u8], own: u32) -> Result<(), Fault>
     if short {
         return Err(Fault::CutShort(packet.len()));
     }
-    let unmade = get_u32(packet, ACK_AT) > own;
+    let unmade = u32::get(packet, ACK_AT) > own;
     if unmade {
         return Err(Fault::Unmade);
     }
@@ -92,8 +92,8 @@ impl<'a> Packet<'a> {
         check_rest(packet, own)?;
         let end = INPUTS_AT + usize::from(packet[COUNT_AT]);
         Ok(Packet {
-            first: get_u32(packet, FIRST_AT),
-            ack: get_u32(packet, ACK_AT),
+            first: u32::get(packet, FIRST_AT),
+            ack: u32::get(packet, ACK_AT),
             inputs: &packet[INPUTS_AT..end],
         })
     }

@@ -6,7 +6,7 @@ ghost use Rattle.packet.specs.Wire.{Proper, message_of, reading, writing, writte
 use crate::fault::Unwritten;
 use crate::message::Packet;
 use crate::{ACK_AT, COUNT_AT, FIRST_AT, INPUTS_AT, MARK, MOST_INPUTS};
-use byte_numbers::put_u32;
+use byte_numbers::LittleEndian;
 
 // The fields before the inputs.
 fn put_head(out: &mut [u8], first: u32, count: u8, ack: u32)
@@ -14,9 +14,9 @@ fn put_head(out: &mut [u8], first: u32, count: u8, ack: u32)
     ensures { out.new ≡ 72 ∷ (little 4 first ++ (count ∷ (little 4 ack ++ drop 10 out.old))) }
 {
     out[0] = MARK;
-    put_u32(out, FIRST_AT, first);
+    first.put(out, FIRST_AT);
     out[COUNT_AT] = count;
-    put_u32(out, ACK_AT, ack);
+    ack.put(out, ACK_AT);
 }
 
 impl Packet<'_> {

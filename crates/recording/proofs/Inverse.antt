@@ -3,7 +3,7 @@ use Rattle.std.proofs.Common.{◌≡◌, ℕ, ◌+◌, ◌*◌, ◌/◌, true, L
 use Rattle.std.proofs.lemmas.List.{take_at, drop_at, drop-drop, append-nil}
 use Rattle.std.proofs.lemmas.Bool.Decides.{nat_tests}
 use Rattle.byte_numbers.specs.Little.{little}
-use Rattle.byte_numbers.proofs.Numbers.{number_little}
+use Rattle.byte_numbers.specs.Numbers.{number_little}
 use Rattle.peer.specs.Peers.{alike}
 use Rattle.recording.specs.declared.fault.Fault.{Fault}
 use Rattle.recording.specs.Matches.{Match, marks, match_bytes}

@@ -8,7 +8,7 @@ ghost use Rattle.recording.specs.Reading.{count_in, head_checked, states_checked
 use crate::fault::Fault;
 use crate::held::Recording;
 use crate::layout::{COUNT_AT, EVERY, FRAMES_AT, HALF, MARK, STATE, WINDOW_AT};
-use byte_numbers::get_u32;
+use byte_numbers::LittleEndian;
 use court::Court;
 use court_game::entry::Held;
 use court_game::snapshot::save_state;
@@ -54,7 +54,7 @@ fn check_head(bytes: &[u8]) -> Result<(), Fault>
     if cut {
         return Err(Fault::CutShort(bytes.len()));
     }
-    let count = get_u32(bytes, COUNT_AT) as usize;
+    let count = u32::get(bytes, COUNT_AT) as usize;
     let many = count > HALF;
     if many {
         return Err(Fault::TooMany);
@@ -130,7 +130,7 @@ impl<'a> Recording<'a> {
         ensures back { IfOk result (λ m. match_bytes (match_in m) ≡ bytes.now) }
     {
         check_head(bytes)?;
-        let count = get_u32(bytes, COUNT_AT) as usize;
+        let count = u32::get(bytes, COUNT_AT) as usize;
         check_states(bytes, count)?;
         let at = FRAMES_AT + count;
         Ok(Recording {

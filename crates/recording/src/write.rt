@@ -7,7 +7,7 @@ ghost use Rattle.recording.specs.Matches.{frame_bytes, marks, match_length, matc
 ghost use Rattle.recording.specs.Writing.{writing, written_over};
 
 use crate::layout::{COUNT_AT, EVERY, FRAMES_AT, HALF, STATE, WINDOW_AT, length_by};
-use byte_numbers::put_u32;
+use byte_numbers::LittleEndian;
 use court::Court;
 use court_game::entry::Held;
 use court_game::snapshot::save_state;
@@ -23,7 +23,7 @@ fn put_head(out: &mut [u8], window: u8, count: u32)
     out[1] = b'E';
     out[2] = b'C';
     out[WINDOW_AT] = window;
-    put_u32(out, COUNT_AT, count);
+    count.put(out, COUNT_AT);
 }
 
 // The frames of both seats, a byte each.

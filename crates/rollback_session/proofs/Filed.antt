@@ -4,7 +4,7 @@ use Rattle.std.specs.List.{flat_map, AllByRecursion}
 use Rattle.std.proofs.lemmas.List.{append_assoc, append-nil, drop_all, drop_more, drop-drop, get_or-drop, length-take-le, take_at, drop_at, flat_map_more}
 use Rattle.std.proofs.ByRecursion.{All-push}
 use Rattle.byte_numbers.specs.Little.{little, number_of, part}
-use Rattle.byte_numbers.proofs.Numbers.{number_little}
+use Rattle.byte_numbers.specs.Numbers.{number_little}
 use Rattle.byte_numbers.proofs.Places.{little_part, part_rest}
 use Rattle.peer.specs.Peers.{Event, tick, arrival}
 use Rattle.rollback_session.specs.Files.{event_bytes, Sized, FileOf, StandsAt, NoEvent, FaultyAt, OneRow}

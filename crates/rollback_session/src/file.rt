@@ -8,7 +8,7 @@ ghost use Rattle.rollback_session.specs.Files.{FileOf, StandsAt, NoEvent, Faulty
 
 use crate::event::Happening;
 use crate::refused::Refused;
-use byte_numbers::get_u16;
+use byte_numbers::LittleEndian;
 
 const TICK: u8 = 0;
 
@@ -34,7 +34,7 @@ fn arrival_at(file: &[u8], at: usize) -> Result<Placed<'_>, Refused>
         return Err(Refused::Event(at));
     }
     let from = at + HEAD;
-    let length = usize::from(get_u16(file, at + 1));
+    let length = usize::from(u16::get(file, at + 1));
     let short = file.len() - from < length;
     if short {
         return Err(Refused::Event(at));

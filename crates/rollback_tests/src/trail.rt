@@ -3,7 +3,7 @@ ghost use Rattle.std.specs.Prelude.{ℕ};
 ghost use Rattle.std.proofs.Common.{rules as found};
 ghost use Rattle.rollback_tests.specs.Trails.{trail_rules};
 
-use byte_numbers::{get_u32, put_u32};
+use byte_numbers::LittleEndian;
 use game::saved::{STATE_BYTES, SavedGame};
 
 #[derive(Clone, Copy, PartialEq, Eq, Debug)]
@@ -30,12 +30,12 @@ impl SavedGame for Trail {
     }
 
     fn save(self, part: &mut [u8]) {
-        put_u32(part, 0, self.0);
+        self.0.put(part, 0);
         part[4..STATE_BYTES].fill(0);
     }
 
     fn load(part: &[u8]) -> Trail {
-        Trail(get_u32(part, 0))
+        Trail(u32::get(part, 0))
     }
 
     ghost lawful = { Prim.search found };

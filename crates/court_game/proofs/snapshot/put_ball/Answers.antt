@@ -17,10 +17,10 @@ returns c =
     let fy : SFits w32 b.y = search rules in
     let fdx : SFits w32 b.dx = search rules in
     let fdy : SFits w32 b.dy = search rules in
-    let e1 : c.put_i32.new.bytes ≡ overwritten xs 0 bx = simp to_z-of_z at c.put_i32.ensures in
-    let e2 : c.put_i32-2.new.bytes ≡ overwritten c.put_i32.new.bytes 4 by = simp to_z-of_z at c.put_i32-2.ensures in
-    let e3 : c.put_i32-3.new.bytes ≡ overwritten c.put_i32-2.new.bytes 8 bdx = simp to_z-of_z at c.put_i32-3.ensures in
-    let e4 : c.put_i32-4.new.bytes ≡ overwritten c.put_i32-3.new.bytes 12 bdy = simp to_z-of_z at c.put_i32-4.ensures in
-    let d2 : c.put_i32-2.new.bytes ≡ overwritten xs 0 (bx ++ by) = e2 ∙ ap (λ zs. overwritten zs 4 by) e1 ∙ put_both xs bx by 0 4 refl (omega arith) in
-    let d3 : c.put_i32-3.new.bytes ≡ overwritten xs 0 (bx ++ by ++ bdx) = e3 ∙ ap (λ zs. overwritten zs 8 bdx) d2 ∙ put_both xs (bx ++ by) bdx 0 8 refl (omega arith) in
+    let e1 : c.put.new.bytes ≡ overwritten xs 0 bx = simp to_z-of_z at c.put.ensures in
+    let e2 : c.put-2.new.bytes ≡ overwritten c.put.new.bytes 4 by = simp to_z-of_z at c.put-2.ensures in
+    let e3 : c.put-3.new.bytes ≡ overwritten c.put-2.new.bytes 8 bdx = simp to_z-of_z at c.put-3.ensures in
+    let e4 : c.put-4.new.bytes ≡ overwritten c.put-3.new.bytes 12 bdy = simp to_z-of_z at c.put-4.ensures in
+    let d2 : c.put-2.new.bytes ≡ overwritten xs 0 (bx ++ by) = e2 ∙ ap (λ zs. overwritten zs 4 by) e1 ∙ put_both xs bx by 0 4 refl (omega arith) in
+    let d3 : c.put-3.new.bytes ≡ overwritten xs 0 (bx ++ by ++ bdx) = e3 ∙ ap (λ zs. overwritten zs 8 bdx) d2 ∙ put_both xs (bx ++ by) bdx 0 8 refl (omega arith) in
     e4 ∙ ap (λ zs. overwritten zs 12 bdy) d3 ∙ put_both xs (bx ++ by ++ bdx) bdy 0 12 refl (omega arith)

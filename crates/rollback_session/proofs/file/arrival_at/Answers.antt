@@ -8,8 +8,8 @@ returns-then-cut c =
 
 pub returns-then-short : goal.returns-then-short
 returns-then-short c =
-    (refl, λ e rest h is. let w = stands_whole c.args.file.now c.args.at e rest h is in let n = c.get_u16.ensures in let m = c.from-length.ensures in omega arith)
+    (refl, λ e rest h is. let w = stands_whole c.args.file.now c.args.at e rest h is in let n = c.get.ensures in let m = c.from-length.ensures in omega arith)
 
 pub returns : goal.returns
 returns c =
-    arrival_stands c.args.file.now c.args.at c.from-length.result _ (omega arith) c.requires.1 (c.from-length.ensures ∙ c.get_u16.ensures) (omega arith) (λ i. (c.type_inv.file i).fits) (omega arith)
+    arrival_stands c.args.file.now c.args.at c.from-length.result _ (omega arith) c.requires.1 (c.from-length.ensures ∙ c.get.ensures) (omega arith) (λ i. (c.type_inv.file i).fits) (omega arith)

@@ -26,11 +26,11 @@ returns-in_err-check_rest c =
 pub bounds-packet-5 : goal.bounds-packet-5
 bounds-packet-5 c = let s = started c.args.packet.now (sym c.in_ok-check_start.ensures) in omega arith
 
-pub get_u32-requires : goal.get_u32-requires
-get_u32-requires c = let t = ended c.args.own c.args.packet.now (sym c.in_ok-check_rest.ensures) in omega arith
+pub get-requires : goal.get-requires
+get-requires c = let t = ended c.args.own c.args.packet.now (sym c.in_ok-check_rest.ensures) in omega arith
 
-pub get_u32-requires-2 : goal.get_u32-requires-2
-get_u32-requires-2 c = let t = ended c.args.own c.args.packet.now (sym c.in_ok-check_rest.ensures) in omega arith
+pub get-requires-2 : goal.get-requires-2
+get-requires-2 c = let t = ended c.args.own c.args.packet.now (sym c.in_ok-check_rest.ensures) in omega arith
 
 pub slice_bounds-result-end : goal.slice_bounds-result-end
 slice_bounds-result-end c = let t = ended c.args.own c.args.packet.now (sym c.in_ok-check_rest.ensures) in omega arith
@@ -40,7 +40,7 @@ returns c =
     let xs = c.args.packet.now in
     let s = sym c.in_ok-check_start.ensures in
     let t = sym c.in_ok-check_rest.ensures in
-    let e = as_read xs c.get_u32.result c.get_u32-2.result ((10 + c.from-end.result) - 10) c.get_u32.ensures c.get_u32-2.ensures (omega arith) in
+    let e = as_read xs c.get.result c.get-2.result ((10 + c.from-end.result) - 10) c.get.ensures c.get-2.ensures (omega arith) in
     let ok : Message → Result Message Fault = λ m. Ok m in
     record {
       value = ap ok e ∙ sym (all_right c.args.own xs s t);

@@ -12,13 +12,13 @@ returns-in_err-check_head c =
     let p = err_from_is_err_and c.from_residual.result c.from_residual.ensures.1 in
     rw (p.1, p.2) (record { value = sym (bad_head c.args.bytes.now c.in_err-check_head.field-0.0 (sym c.in_err-check_head.ensures)); proper = tt; right = tt; back = tt })
 
-pub get_u32-count-requires : goal.get_u32-count-requires
-get_u32-count-requires c = let h = headed c.args.bytes.now (sym c.in_ok-check_head.ensures) in omega arith
+pub get-count-requires : goal.get-count-requires
+get-count-requires c = let h = headed c.args.bytes.now (sym c.in_ok-check_head.ensures) in omega arith
 
 pub check_states-requires : goal.check_states-requires
 check_states-requires c =
     let h = headed c.args.bytes.now (sym c.in_ok-check_head.ensures) in
-    let n = c.get_u32-count.ensures in
+    let n = c.get-count.ensures in
     record { count = n; whole = omega arith; few = omega arith }
 
 pub returns-in_err-check_states : goal.returns-in_err-check_states
@@ -32,19 +32,19 @@ bounds-bytes-3 c = let h = headed c.args.bytes.now (sym c.in_ok-check_head.ensur
 pub slice_bounds-result-end : goal.slice_bounds-result-end
 slice_bounds-result-end c =
     let h = headed c.args.bytes.now (sym c.in_ok-check_head.ensures) in
-    let n = c.get_u32-count.ensures in
+    let n = c.get-count.ensures in
     omega arith
 
 pub slice_bounds-result-count-2 : goal.slice_bounds-result-count-2
 slice_bounds-result-count-2 c =
     let h = headed c.args.bytes.now (sym c.in_ok-check_head.ensures) in
-    let n = c.get_u32-count.ensures in
+    let n = c.get-count.ensures in
     omega arith
 
 pub slice_bounds-result-start-2 : goal.slice_bounds-result-start-2
 slice_bounds-result-start-2 c =
     let h = headed c.args.bytes.now (sym c.in_ok-check_head.ensures) in
-    let n = c.get_u32-count.ensures in
+    let n = c.get-count.ensures in
     omega arith
 
 pub returns : goal.returns
@@ -53,8 +53,8 @@ returns c =
     let head = sym c.in_ok-check_head.ensures in
     let states = sym c.in_ok-check_states.ensures in
     let h = headed xs head in
-    let n = c.get_u32-count.result in
-    let given = handed xs n (8 + n - 8) c.get_u32-count.ensures (omega arith) in
+    let n = c.get-count.result in
+    let given = handed xs n (8 + n - 8) c.get-count.ensures (omega arith) in
     let mk : List ℕ → Match = λ fs. record { window = window_in xs; frames = fs } in
     let same = ap mk given.frames_are in
     let ok : Match → Result Match Fault = λ m. Ok m in

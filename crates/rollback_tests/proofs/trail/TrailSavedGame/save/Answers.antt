@@ -10,7 +10,7 @@ returns c =
     let zeros : List ℕ = replicate 60 0 in
     let long : length c.fill.new.self ≡ 60 = search rules in
     let filled : c.fill.new.self ≡ zeros = c.fill.ensures.after (λ y e. e) ∙ ap (λ n. replicate n 0) (sym c.fill.ensures.len ∙ long) in
-    put_is 4 60 c.put_u32.new.bytes c.fill.new.self zeros filled refl
-    ∙ ap (λ zs. overwritten zs 4 zeros) c.put_u32.ensures
+    put_is 4 60 c.put.new.bytes c.fill.new.self zeros filled refl
+    ∙ ap (λ zs. overwritten zs 4 zeros) c.put.ensures
     ∙ put_both xs four zeros 0 4 refl (omega arith)
     ∙ put_all xs (four ++ zeros) (omega arith)
