@@ -1,30 +1,18 @@
 // The court as a game whose states can be saved.
 ghost use Rattle.court.specs.declared.state.State.{State};
 ghost use Rattle.court_game.specs.Saved.{court_saved, court_lawful};
+ghost use Rattle.std.specs.Prelude.{refl};
 
 use crate::entry::Held;
 use crate::snapshot::{load_state, save_state};
-use court::{Court, Input};
 use game::saved::SavedGame;
 
 impl SavedGame for Held {
-    ghost model = { State };
+    ghost states = { State };
 
-    ghost rules = { court_saved };
+    ghost saved = { court_saved };
 
-    ghost seen = { λ h. h.0.state };
-
-    fn fits(input: u8) -> bool {
-        input <= 15
-    }
-
-    fn start() -> Held {
-        Held(Court::new())
-    }
-
-    fn advance(self, left: u8, right: u8) -> Held {
-        Held(self.0.frame(Input(left), Input(right)))
-    }
+    ghost state = { λ h. h.0.state };
 
     fn save(self, part: &mut [u8]) {
         save_state(self.0, part);
@@ -35,4 +23,6 @@ impl SavedGame for Held {
     }
 
     ghost lawful = { court_lawful };
+
+    ghost same_game = { record { fits = λ a. refl; begins = λ v e. e; goes_on = λ v w a b e. e } };
 }

@@ -2,7 +2,6 @@
 use Rattle.std.specs.Prelude.{◌≡◌, ℕ, ◌+◌, ◌*◌, ◌%◌, ◌≤◌, min, List, ◌++◌, length, take, drop, slice_index}
 use Rattle.game.specs.Saved.{SavedRules}
 use Rattle.game.specs.declared.seat.Seat.{Seat}
-use Rattle.game.specs.declared.seat.Seat.TheVariants.{Left, Right}
 use Rattle.peer.specs.declared.numbers.Peer.{Peer}
 use Rattle.peer.specs.Lent.{Long, Untouched, log_of, seated, after}
 use Rattle.peer.specs.Peers.{Event, event, new_log, shows}
@@ -27,11 +26,6 @@ Behind slots states states' = (i : ℕ) → slots * 64 ≤ i → slice_index sta
 pub record Roomy (window : ℕ) (inputs states : List ℕ) : Type 0 where
   pub inputs_long : Long inputs
   pub states_long : (window + 1) * 64 ≤ length states
-
--- the inputs of seat 0 and of seat 1, from those of a seat and of the other
-abbrev pub by_seat : Seat → ℕ → ℕ → ℕ × ℕ
-by_seat Left own other = (own, other)
-by_seat Right own other = (other, own)
 
 -- the state after k frames lies in slot k mod (window + 1), for each k from lo to hi; so many of the other's inputs came
 unfoldable pub Saved : {S : Type 0} → SavedRules S → Seat → ℕ → List ℕ → ℕ → List ℕ → ℕ → ℕ → Type 0

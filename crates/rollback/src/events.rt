@@ -37,7 +37,7 @@ pub fn begin<G: SavedGame>(
     states: &mut [u8],
 ) -> Result<Peer, Refusal>
     ensures answer { as_checked result ≡ begin_checked window (length inputs.now) (length states.old) }
-    ensures begun { IfOk result (λ p. Begun G.rules seat window p inputs.now states.new) }
+    ensures begun { IfOk result (λ p. Begun G.saved seat window p inputs.now states.new) }
     ensures behind { Behind 1 states.old states.new }
     ensures idle { is_err result ≡ true → states.new ≡ states.old }
 {
@@ -57,7 +57,7 @@ fn go_on<G: SavedGame>(p: &mut Peer, inputs: &mut [u8], states: &mut [u8], input
     ensures log { log_of p.new inputs.new ≡ with_own (log_of p.old inputs.old) input }
     ensures untouched { Untouched p.old inputs.old p.new inputs.new }
     ensures behind { Behind (p.old.window + 1) states.old states.new }
-    ensures keeps { Kept G.rules p.old inputs.old states.old → Kept G.rules p.new inputs.new states.new }
+    ensures keeps { Kept G.saved p.old inputs.old states.old → Kept G.saved p.new inputs.new states.new }
     ensures count { result ≡ 1 }
 {
     let frame = p.own;
@@ -70,8 +70,8 @@ fn go_on<G: SavedGame>(p: &mut Peer, inputs: &mut [u8], states: &mut [u8], input
 
 // A frame's time, with the input at the peer's own seat.
 pub fn tick<G: SavedGame>(p: &mut Peer, inputs: &mut [u8], states: &mut [u8], input: u8) -> Outcome
-    ensures answer { result ≡ said_tick G.rules.fits p.old.window (length inputs.old) (length states.old) (log_of p.old inputs.old) input }
-    ensures happens { Happened G.rules p.old inputs.old states.old (ticked input) p.new inputs.new states.new }
+    ensures answer { result ≡ said_tick G.saved.fits p.old.window (length inputs.old) (length states.old) (log_of p.old inputs.old) input }
+    ensures happens { Happened G.saved p.old inputs.old states.old (ticked input) p.new inputs.new states.new }
     ensures idle { ((n : ℕ) → result ≢ Taken n) → (p.new ≡ p.old) × (inputs.new ≡ inputs.old) × (states.new ≡ states.old) }
     ensures few { (n : ℕ) → result ≡ Taken n → n ≤ p.old.window }
 {
@@ -95,7 +95,7 @@ pub fn receive<G: SavedGame>(
     bytes: &[u8],
 ) -> Outcome
     ensures answer { result ≡ said_arrival p.old.window (length inputs.old) (length states.old) (log_of p.old inputs.old) bytes.now }
-    ensures happens { Happened G.rules p.old inputs.old states.old (arrival bytes.now) p.new inputs.new states.new }
+    ensures happens { Happened G.saved p.old inputs.old states.old (arrival bytes.now) p.new inputs.new states.new }
     ensures idle { ((n : ℕ) → result ≢ Taken n) → (p.new ≡ p.old) × (inputs.new ≡ inputs.old) × (states.new ≡ states.old) }
     ensures few { (n : ℕ) → result ≡ Taken n → n ≤ p.old.window }
     ensures guessed { (n : ℕ) → result ≡ Taken n → predicted (log_of p.old inputs.old) ≡ predicted (log_of p.new inputs.new) → (n ≡ 0) × (states.new ≡ states.old) }

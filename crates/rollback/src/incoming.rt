@@ -45,7 +45,7 @@ pub(crate) fn take_in<G: SavedGame>(
     ensures log { log_of p.new inputs.new ≡ heard (log_of p.old inputs.old) (Ok (message_of packet.entry)) }
     ensures untouched { Untouched p.old inputs.old p.new inputs.new }
     ensures behind { Behind (p.old.window + 1) states.old states.new }
-    ensures keeps { Kept G.rules p.old inputs.old states.old → Kept G.rules p.new inputs.new states.new }
+    ensures keeps { Kept G.saved p.old inputs.old states.old → Kept G.saved p.new inputs.new states.new }
     ensures count { result ≡ to_play (log_of p.old inputs.old) (log_of p.new inputs.new) }
     ensures few { result ≤ p.old.window }
     ensures guessed { predicted (log_of p.old inputs.old) ≡ predicted (log_of p.new inputs.new) → (result ≡ 0) × (states.new ≡ states.old) }

@@ -15,7 +15,7 @@ pub(crate) fn replay<G: SavedGame>(p: &Peer, inputs: &[u8], states: &mut [u8], f
     requires back { from ≤ p.now.own }
     requires near { p.now.own ≤ from + p.now.window }
     ensures count { result + from ≡ p.now.own }
-    ensures saved { slot_in states.old (from % (p.now.window + 1)) ≡ G.rules.coded (after (seated p.now.seat G.rules.game) inputs.now p.now.other from) → Saved G.rules p.now.seat p.now.window inputs.now p.now.other states.new from p.now.own }
+    ensures saved { slot_in states.old (from % (p.now.window + 1)) ≡ G.saved.coded (after (seated p.now.seat G.saved.game) inputs.now p.now.other from) → Saved G.saved p.now.seat p.now.window inputs.now p.now.other states.new from p.now.own }
     ensures behind { Behind (p.now.window + 1) states.old states.new }
 {
     let mut state: G = load_at(states, slot_of(p, from));

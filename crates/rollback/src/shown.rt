@@ -9,7 +9,7 @@ use peer::{Peer, Refusal};
 
 // Whatever the inputs are that the saved states stand for: the plain game with them, those that have not come predicted.
 pub fn shown<G: SavedGame>(p: &Peer, states: &[u8]) -> Result<G, Refusal>
-    ensures { MatchResult result (λ s. ((p.now.window + 1) * 64 ≤ length states.now) × Shown G.rules p.now states.now (G.seen s)) (λ f. (f ≡ States) × (length states.now < (p.now.window + 1) * 64)) }
+    ensures { MatchResult result (λ s. ((p.now.window + 1) * 64 ≤ length states.now) × Shown G.saved p.now states.now (G.state s)) (λ f. (f ≡ States) × (length states.now < (p.now.window + 1) * 64)) }
 {
     let few = states.len() < (p.window + 1) * STATE_BYTES;
     if few {

@@ -16,7 +16,7 @@ pub(crate) fn slot_of(p: &Peer, frames: usize) -> usize
 // Writes one slot. No other byte changes.
 pub(crate) fn save_at<G: SavedGame>(states: &mut [u8], slot: usize, state: G)
     requires { slot * 64 + 64 ≤ length states.old }
-    ensures { states.new ≡ with_slot states.old slot (G.rules.coded (G.seen state)) }
+    ensures { states.new ≡ with_slot states.old slot (G.saved.coded (G.state state)) }
 {
     let at = slot * STATE_BYTES;
     state.save(&mut states[at..at + STATE_BYTES]);
@@ -24,7 +24,7 @@ pub(crate) fn save_at<G: SavedGame>(states: &mut [u8], slot: usize, state: G)
 
 pub(crate) fn load_at<G: SavedGame>(states: &[u8], slot: usize) -> G
     requires { slot * 64 + 64 ≤ length states.now }
-    ensures { (s : G.model) → G.rules.ok s → slot_in states.now slot ≡ G.rules.coded s → G.seen result ≡ s }
+    ensures { (s : G.states) → G.saved.ok s → slot_in states.now slot ≡ G.saved.coded s → G.state result ≡ s }
 {
     let at = slot * STATE_BYTES;
     G::load(&states[at..at + STATE_BYTES])

@@ -5,15 +5,15 @@ use game::saved::SavedGame;
 
 // A peer has the log that the definitions give, whatever events came, right and wrong, and has saved the states that it asks for.
 pub fn keeps_log<G: SavedGame>()
-    ensures { KeepsLog G.rules }
+    ensures { KeepsLog G.saved }
 {}
 
 // What it shows is the plain game with the inputs of that log, those that have not come predicted.
 pub fn same_shown<G: SavedGame>()
-    ensures { SameShown G.rules }
+    ensures { SameShown G.saved }
 {}
 
 // Playing on from any state that it has saved leads to what it shows.
 pub fn plays_on<G: SavedGame>()
-    ensures { PlaysOn G.rules }
+    ensures { PlaysOn G.saved }
 {}

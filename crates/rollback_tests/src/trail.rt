@@ -1,18 +1,19 @@
 // A second game, as small as one can be: its state is a number that all inputs so far have gone into, in their order.
-ghost use Rattle.std.specs.Prelude.{ℕ};
+ghost use Rattle.std.specs.Prelude.{ℕ, refl};
 ghost use Rattle.std.proofs.Common.{rules as found};
-ghost use Rattle.rollback_tests.specs.Trails.{trail_rules};
+ghost use Rattle.rollback_tests.specs.Trails.{trail_played, trail_rules};
 
 use byte_numbers::LittleEndian;
+use game::rules::Game;
 use game::saved::{STATE_BYTES, SavedGame};
 
 #[derive(Clone, Copy, PartialEq, Eq, Debug)]
 pub struct Trail(pub u32);
 
-impl SavedGame for Trail {
+impl Game for Trail {
     ghost model = { ℕ };
 
-    ghost rules = { trail_rules };
+    ghost rules = { trail_played };
 
     ghost seen = { λ t. t.0 };
 
@@ -28,6 +29,14 @@ impl SavedGame for Trail {
         let step = u32::from(left) * 17 + u32::from(right);
         Trail(self.0.wrapping_mul(31).wrapping_add(step))
     }
+}
+
+impl SavedGame for Trail {
+    ghost states = { ℕ };
+
+    ghost saved = { trail_rules };
+
+    ghost state = { λ t. t.0 };
 
     fn save(self, part: &mut [u8]) {
         self.0.put(part, 0);
@@ -39,4 +48,6 @@ impl SavedGame for Trail {
     }
 
     ghost lawful = { Prim.search found };
+
+    ghost same_game = { record { fits = λ a. refl; begins = λ v e. e; goes_on = λ v w a b e. e } };
 }

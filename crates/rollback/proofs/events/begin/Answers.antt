@@ -24,7 +24,7 @@ returns-clause-answer g c = c.in_ok-check_memory.ensures ∙ sym (begin_memory _
 
 pub returns-clause-begun : goal.returns-clause-begun
 returns-clause-begun g c =
-    let r = g.G.SavedGame.rules in
+    let r = g.G.SavedGame.saved in
     let law = g.met.G.SavedGame.lawful in
     let window = c.args.window in
     let seat = c.args.seat in
@@ -32,7 +32,7 @@ returns-clause-begun g c =
     let xs = c.args.inputs.now in
     let states = c.args.states.now in
     let saved = c.save_at.new.states in
-    let s = g.G.SavedGame.seen c.start.result in
+    let s = g.G.SavedGame.state c.start.result in
     let (seat_is, window_is, own, other, acked) = c.in_ok-p.ensures.new in
     let room = checked_room window (length xs) (length states) c.in_ok-check_memory.ensures in
     let few : 64 ≤ length states = omega (arith, room.1) in
@@ -40,7 +40,7 @@ returns-clause-begun g c =
     ap (slot saved) (zero-mod (window + 1))
     ∙ ap (λ zs. slot zs 0) c.save_at.ensures
     ∙ slot_same states (r.coded s) 0 few (law.long s)
-    ∙ ap r.coded (c.start.ensures ∙ sym (after_none seat r.game xs 0)) in
+    ∙ ap r.coded (g.met.G.SavedGame.same_game.begins _ c.start.ensures ∙ sym (after_none seat r.game xs 0)) in
     let one = saved_one r seat window xs 0 saved 0 first in
     let none : (k : ℕ) → k ≤ p.own → after (seated seat r.game) xs 0 k ≡ after (seated seat r.game) xs p.other k = λ k _. ap (λ b. after (seated seat r.game) xs b k) (sym other) in
     record {
@@ -53,9 +53,9 @@ returns-clause-begun g c =
 
 pub returns-clause-behind : goal.returns-clause-behind
 returns-clause-behind g c =
-    let r = g.G.SavedGame.rules in
+    let r = g.G.SavedGame.saved in
     let law = g.met.G.SavedGame.lawful in
     let states = c.args.states.now in
-    let s = g.G.SavedGame.seen c.start.result in
+    let s = g.G.SavedGame.state c.start.result in
     let room = checked_room c.args.window _ (length states) c.in_ok-check_memory.ensures in
     λ i h. ap (λ zs. get_or zs i 0) c.save_at.ensures ∙ slot_behind states (r.coded s) 0 1 (omega arith) (omega (arith, room.1)) (law.long s) i h

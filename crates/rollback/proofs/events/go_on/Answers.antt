@@ -12,14 +12,14 @@ unfolding Saved
 returns g c =
     let p = c.args.p.now in
     let q = c.push_own.new.p in
-    let r = g.G.SavedGame.rules in
+    let r = g.G.SavedGame.saved in
     let law = g.met.G.SavedGame.lawful in
     let xs = c.args.inputs.now in
     let ys = c.push_own.new.inputs in
     let states = c.args.states.now in
     let did = c.push_own.ensures in
     let a = p.own in
-    let s = g.G.SavedGame.seen c.play_frame.result in
+    let s = g.G.SavedGame.state c.play_frame.result in
     let few = p.few in
     let room : (q.window + 1) * 64 ≤ length states = omega (arith, c.requires.roomy.states_long, did.window) in
     let here : (a + 1) % (q.window + 1) < q.window + 1 = mod-lt (a + 1) (omega arith) in
@@ -37,7 +37,7 @@ returns g c =
           (λ i h. other_same xs ys p.other i (λ j m. did.untouched (1000000 + j) (λ out. omega (arith, out.1, did.own, c.requires.few)) (λ out. omega (arith, out.0))) ∙ ap (λ n. other_at n ys i) (sym did.other)) in
           let moved : Saved r q.seat q.window ys q.other states lo a = saved_as r p.seat q.seat p.window q.window xs ys p.other q.other states lo lo a a did.seat did.window (omega arith) (omega arith) same kept in
           let game = seated q.seat r.game in
-          let last : g.G.SavedGame.seen c.load_at-last.result ≡ after game ys q.other a =
+          let last : g.G.SavedGame.state c.load_at-last.result ≡ after game ys q.other a =
           c.load_at-last.ensures (after game ys q.other a) (after_ok r law q.seat ys q.other a)
           (ap (slot states) (c.slot_of.ensures.value ∙ ap (λ n. a % (n + 1)) (sym did.window)) ∙ moved a (omega arith) (omega arith)) in
           let next : s ≡ after game ys q.other (a + 1) =

@@ -10,7 +10,7 @@ use Rattle.rollback.proofs.events.receive.Goals as goal
 
 pub returns-in-Err : goal.returns-in-Err
 returns-in-Err g c =
-    let r = g.G.SavedGame.rules in
+    let r = g.G.SavedGame.saved in
     let p = c.args.p.now in
     let xs = c.args.inputs.now in
     let states = c.args.states.now in
@@ -27,7 +27,7 @@ returns-in-Err g c =
 
 pub returns-in-Ok : goal.returns-in-Ok
 returns-in-Ok g c =
-    let r = g.G.SavedGame.rules in
+    let r = g.G.SavedGame.saved in
     let p = c.args.p.now in
     let q = c.take_in.new.p in
     let xs = c.args.inputs.now in
@@ -56,7 +56,7 @@ returns-in-Ok g c =
 
 pub returns-in-Err-read : goal.returns-in-Err-read
 returns-in-Err-read g c =
-    let r = g.G.SavedGame.rules in
+    let r = g.G.SavedGame.saved in
     let p = c.args.p.now in
     let xs = c.args.inputs.now in
     let states = c.args.states.now in

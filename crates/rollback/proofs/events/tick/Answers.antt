@@ -9,7 +9,7 @@ use Rattle.rollback.proofs.events.tick.Goals as goal
 
 pub returns-in-Err : goal.returns-in-Err
 returns-in-Err g c =
-    let r = g.G.SavedGame.rules in
+    let r = g.G.SavedGame.saved in
     let p = c.args.p.now in
     let xs = c.args.inputs.now in
     let states = c.args.states.now in
@@ -24,34 +24,34 @@ returns-in-Err g c =
 
 pub returns-then-not-fits : goal.returns-then-not-fits
 returns-then-not-fits g c =
-    let r = g.G.SavedGame.rules in
+    let r = g.G.SavedGame.saved in
     let p = c.args.p.now in
     let xs = c.args.inputs.now in
     let states = c.args.states.now in
-    let t = tick_unfit r.fits p.window (length xs) (length states) (log_of p xs) c.args.input c.in_default.ensures (sym c.if-not-fits.ensures) in
+    let t = tick_unfit r.fits p.window (length xs) (length states) (log_of p xs) c.args.input c.in_default.ensures (sym (g.met.G.SavedGame.same_game.fits c.args.input) ∙ sym c.if-not-fits.ensures) in
     record { answer = t.0; happens = unmoved r p xs states (tick c.args.input) (λ _. t.1); idle = λ _. (refl, refl, refl); few = λ n e. absurd (refused_taken _ n e) }
 
 pub returns-then-not-may_play : goal.returns-then-not-may_play
 returns-then-not-may_play g c =
-    let r = g.G.SavedGame.rules in
+    let r = g.G.SavedGame.saved in
     let p = c.args.p.now in
     let xs = c.args.inputs.now in
     let states = c.args.states.now in
     let room = checked_room p.window (length xs) (length states) c.in_default.ensures in
     let n : goes_on p.window (log_of p xs) ≡ false = goes_on_is p xs room.0 ∙ sym c.if-not-may_play.ensures in
-    let t = tick_lost r.fits p.window (length xs) (length states) (log_of p xs) c.args.input c.in_default.ensures (sym c.if-not-fits.ensures) n in
+    let t = tick_lost r.fits p.window (length xs) (length states) (log_of p xs) c.args.input c.in_default.ensures (sym (g.met.G.SavedGame.same_game.fits c.args.input) ∙ sym c.if-not-fits.ensures) n in
     record { answer = t.0; happens = unmoved r p xs states (tick c.args.input) (λ _. t.1); idle = λ _. (refl, refl, refl); few = λ n e. absurd (lost_taken n e) }
 
 pub returns : goal.returns
 returns g c =
-    let r = g.G.SavedGame.rules in
+    let r = g.G.SavedGame.saved in
     let p = c.args.p.now in
     let xs = c.args.inputs.now in
     let states = c.args.states.now in
     let did = c.go_on.ensures in
     let room = checked_room p.window (length xs) (length states) c.in_default.ensures in
     let n : goes_on p.window (log_of p xs) ≡ true = goes_on_is p xs room.0 ∙ sym c.if-not-may_play.ensures in
-    let t = tick_taken r.fits p.window (length xs) (length states) (log_of p xs) c.args.input c.in_default.ensures (sym c.if-not-fits.ensures) n in
+    let t = tick_taken r.fits p.window (length xs) (length states) (log_of p xs) c.args.input c.in_default.ensures (sym (g.met.G.SavedGame.same_game.fits c.args.input) ∙ sym c.if-not-fits.ensures) n in
     record {
       answer = ap Taken did.count ∙ t.0;
       happens = record {

@@ -11,7 +11,7 @@ unfolding Saved
 returns-then-back g c =
     let p = c.args.p.now in
     let q = c.join.new.p in
-    let r = g.G.SavedGame.rules in
+    let r = g.G.SavedGame.saved in
     let xs = c.args.inputs.now in
     let ys = c.join.new.inputs in
     let states = c.args.states.now in
@@ -44,7 +44,7 @@ pub returns-else-back : goal.returns-else-back
 returns-else-back g c =
     let p = c.args.p.now in
     let q = c.join.new.p in
-    let r = g.G.SavedGame.rules in
+    let r = g.G.SavedGame.saved in
     let xs = c.args.inputs.now in
     let ys = c.join.new.inputs in
     let states = c.args.states.now in

@@ -9,7 +9,7 @@ use Rattle.rollback.proofs.replay.replay.Goals as goal
 pub replay-init : goal.replay-init
 replay-init g c =
     let p = c.args.p.now in
-    let r = g.G.SavedGame.rules in
+    let r = g.G.SavedGame.saved in
     let xs = c.args.inputs.now in
     let from = c.args.from in
     let states = c.args.states.now in (
@@ -26,14 +26,14 @@ replay-init g c =
 pub replay-preserved : goal.replay-preserved
 replay-preserved g c =
     let p = c.args.p.now in
-    let r = g.G.SavedGame.rules in
+    let r = g.G.SavedGame.saved in
     let law = g.met.G.SavedGame.lawful in
     let game = seated p.seat r.game in
     let xs = c.args.inputs.now in
     let k = c.replay.k in
     let from = c.args.from in
     let states = c.replay.states in
-    let s = g.G.SavedGame.seen c.play_frame-state.result in
+    let s = g.G.SavedGame.state c.play_frame-state.result in
     let room : (p.window + 1) * 64 ≤ length states = search rules in
     let here : (k + 1) % (p.window + 1) < p.window + 1 = mod-lt (k + 1) (omega arith) in (
       omega arith,

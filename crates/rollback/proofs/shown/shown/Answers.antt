@@ -9,7 +9,7 @@ pub returns : goal.returns
 unfolding Saved
 returns g c =
     let p = c.args.p.now in
-    let r = g.G.SavedGame.rules in
+    let r = g.G.SavedGame.saved in
     let states = c.args.states.now in (
       c.if-few.false,
       λ inputs long kept.
