@@ -1,7 +1,7 @@
 -- Of several faults the one at the lowest place is told. Assumes nothing.
-use Rattle.std.proofs.Common.{◌≡◌, ℕ, zero, suc, ◌+◌, ◌-◌, ◌<◌, ◌≤◌, min, Bool, true, false, leb, ◌⊎◌, List, [], ◌∷◌, length, get_or, drop, Ok, Err, Result, refl, ap, ◌∙◌, inl, inr, zero-le, add-one, arith, length-drop, length-take, get_or-drop, get_or-take, MatchResult}
-use Rattle.std.proofs.lemmas.Bool.{leb-false}
+use Rattle.std.proofs.Common.{◌≡◌, ℕ, ◌+◌, ◌-◌, ◌<◌, ◌≤◌, min, true, false, ltb, ◌⊎◌, List, length, get_or, drop, Ok, Err, Result, refl, ap, ◌∙◌, inl, inr, zero-le, arith, length-drop, length-take, get_or-drop, get_or-take, MatchResult}
 use Rattle.std.proofs.lemmas.Bool.Decides.{nat_tests}
+use Rattle.std.proofs.lemmas.List.Sums.{fails_before_first, passes_at_first}
 use Rattle.packet.specs.declared.fault.Fault.{Fault}
 use Rattle.packet.specs.declared.fault.Fault.TheVariants.{NoMark, CutShort, TooLong, TooMany, BadInput, PastEnd, Unmade}
 use Rattle.packet.specs.Inputs.{first_bad}
@@ -10,22 +10,15 @@ use Rattle.packet.proofs.Checks.{Started, Ended, started, ended}
 
 -- ---- the first byte that is no input
 
-pub fit_below : (ys : List ℕ) (k : ℕ) → k < first_bad ys → get_or ys k 0 ≤ 15
-fit_below [] k h = omega arith
-fit_below (y ∷ ys) zero h = grind (arith, nat_tests)
-fit_below (y ∷ ys) (suc k) h =
-    let rest : k < first_bad ys → get_or ys k 0 ≤ 15 = fit_below ys k in
+fit_below : (ys : List ℕ) (k : ℕ) → k < first_bad ys → get_or ys k 0 ≤ 15
+fit_below ys k h =
+    let t : ltb 15 (get_or ys k 0) ≡ false = fails_before_first (ltb 15) ys k 0 h in
     grind (arith, nat_tests)
 
-bad_by : (y : ℕ) (ys : List ℕ) (b : Bool) → leb y 15 ≡ b → (first_bad ys < length ys → 15 < get_or ys (first_bad ys) 0) → first_bad (y ∷ ys) < length (y ∷ ys) → 15 < get_or (y ∷ ys) (first_bad (y ∷ ys)) 0
-bad_by y ys true e rest h =
-    let n : first_bad (y ∷ ys) ≡ suc (first_bad ys) = simp e (add-one (first_bad ys)) in
-    rw n (rest (omega arith))
-bad_by y ys false e rest h = let n : first_bad (y ∷ ys) ≡ 0 = simp e in rw n (leb-false y 15 e)
-
-pub bad_there : (ys : List ℕ) → first_bad ys < length ys → 15 < get_or ys (first_bad ys) 0
-bad_there [] h = omega arith
-bad_there (y ∷ ys) h = bad_by y ys (leb y 15) refl (bad_there ys) h
+bad_there : (ys : List ℕ) → first_bad ys < length ys → 15 < get_or ys (first_bad ys) 0
+bad_there ys h =
+    let t : ltb 15 (get_or ys (first_bad ys) 0) ≡ true = passes_at_first (ltb 15) ys 0 h in
+    grind (arith, nat_tests)
 
 -- an input by its place in the packet
 input_at : (xs : List ℕ) (at : ℕ) → 10 ≤ at → at < 10 + count_in xs → get_or (inputs_in xs) (at - 10) 0 ≡ get_or xs at 0

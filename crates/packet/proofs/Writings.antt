@@ -15,6 +15,6 @@ put_whole f n a k is e xs ys p q r s =
     ∙ ap (λ zs. 72 ∷ (little 4 f ++ (length is ∷ (little 4 a ++ (is ++ zs))))) (drop-drop k 10 e ∙ ap (λ m. drop (10 + m) e) s)
 
 -- what was written is read, whatever lies behind it
-pub read_again : (own : ℕ) (m : Message) (rest : List ℕ) → own < 2 ^ 32 → Proper own m → reading own (take (message_length m) (message_bytes m ++ rest)) ≡ Ok m
-read_again own m rest small h =
-    ap (reading own) (take_at (message_bytes m) rest (message_length m) (omega arith)) ∙ written_read own m small h
+pub read_again : (own : ℕ) (m : Message) (rest : List ℕ) (end : ℕ) → end ≡ message_length m → own < 2 ^ 32 → Proper own m → reading own (take end (message_bytes m ++ rest)) ≡ Ok m
+read_again own m rest end e small h =
+    ap (reading own) (take_at (message_bytes m) rest end (omega arith)) ∙ written_read own m small h

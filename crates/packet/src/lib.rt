@@ -23,7 +23,8 @@ const INPUTS_AT: usize = 10;
 
 const MARK: u8 = b'H';
 
-const MOST_INPUTS: u8 = 120;
+// As many inputs as a packet has at most.
+pub const MOST_INPUTS: u8 = 120;
 
 const MOST_FRAMES: u64 = 1_000_000;
 

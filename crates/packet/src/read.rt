@@ -1,47 +1,41 @@
 // Bytes as a packet, or the fault at the lowest place.
-ghost use Rattle.std.specs.Prelude.{◌≡◌, ◌≤◌, length, IfOk};
-ghost use Rattle.packet.specs.Inputs.{first_bad};
+ghost use Rattle.std.specs.Prelude.{◌≡◌, ◌≤◌, length, IfOk, nat_lt};
+ghost use Rattle.std.specs.List.{position};
 ghost use Rattle.packet.specs.Wire.{Proper, message_of, message_bytes, start_checked, rest_checked, reading, read_as};
 
 use crate::fault::Fault;
 use crate::message::Packet;
 use crate::{ACK_AT, COUNT_AT, FIRST_AT, INPUTS_AT, LARGEST_INPUT, MARK, MOST_FRAMES, MOST_INPUTS};
 use byte_numbers::LittleEndian;
+use std::cmp::Ordering;
 
-// Where the first byte stands that is no input, or how many there are.
-fn find_bad(inputs: &[u8]) -> usize
-    ensures { result ≡ first_bad inputs.now }
+// Where the first byte stands that is no input.
+fn find_bad(inputs: &[u8]) -> Option<usize>
+    ensures { result ≡ position (λ a. nat_lt 15 a) inputs.now }
 {
-    for (i, input) in inputs.iter().enumerate() {
-        let fits = *input <= LARGEST_INPUT;
-        if !fits {
-            return i;
-        }
-    }
-    inputs.len()
+    inputs.iter().position(|input| *input > LARGEST_INPUT)
 }
 
 // The mark, the first frame and the number of inputs.
+#[tactic(auto, using(std::proofs::lemmas::Bool::Decides::nat_tests), unfolding(crate::specs::Wire::start_checked))]
 fn check_start(packet: &[u8]) -> Result<(), Fault>
     ensures { result ≡ start_checked packet.now }
 {
-    if packet.is_empty() {
+    let Some(mark) = packet.first() else {
         return Err(Fault::CutShort(0));
-    }
-    let marked = packet[0] == MARK;
+    };
+    let marked = *mark == MARK;
     if !marked {
         return Err(Fault::NoMark);
     }
-    let short = packet.len() <= COUNT_AT;
-    if short {
+    let Some(count) = packet.get(COUNT_AT) else {
         return Err(Fault::CutShort(packet.len()));
-    }
-    let count = packet[COUNT_AT];
-    let past_end = u64::from(u32::get(packet, FIRST_AT)) + u64::from(count) > MOST_FRAMES;
+    };
+    let past_end = u64::from(u32::get(packet, FIRST_AT)) + u64::from(*count) > MOST_FRAMES;
     if past_end {
         return Err(Fault::PastEnd);
     }
-    let many = count > MOST_INPUTS;
+    let many = *count > MOST_INPUTS;
     if many {
         return Err(Fault::TooMany);
     }
@@ -49,6 +43,7 @@ fn check_start(packet: &[u8]) -> Result<(), Fault>
 }
 
 // The acknowledgement, the inputs and the length, of a packet whose start is right.
+#[tactic(auto, using(std::proofs::lemmas::Bool::Decides::nat_tests, crate::proofs::Firsts::inputs_there), unfolding(crate::specs::Wire::rest_checked))]
 fn check_rest(packet: &[u8], own: u32) -> Result<(), Fault>
     requires { 6 ≤ length packet.now }
     ensures { result ≡ rest_checked own packet.now }
@@ -63,21 +58,14 @@ fn check_rest(packet: &[u8], own: u32) -> Result<(), Fault>
     }
     let end = INPUTS_AT + usize::from(packet[COUNT_AT]);
     let there = packet.len().min(end);
-    let inputs = &packet[INPUTS_AT..there];
-    let bad = find_bad(inputs);
-    let unfit = bad < inputs.len();
-    if unfit {
+    if let Some(bad) = find_bad(&packet[INPUTS_AT..there]) {
         return Err(Fault::BadInput(INPUTS_AT + bad));
     }
-    let cut = packet.len() < end;
-    if cut {
-        return Err(Fault::CutShort(packet.len()));
+    match packet.len().cmp(&end) {
+        Ordering::Less => Err(Fault::CutShort(packet.len())),
+        Ordering::Equal => Ok(()),
+        Ordering::Greater => Err(Fault::TooLong(end)),
     }
-    let long = packet.len() > end;
-    if long {
-        return Err(Fault::TooLong(end));
-    }
-    Ok(())
 }
 
 impl<'a> Packet<'a> {
@@ -90,11 +78,10 @@ impl<'a> Packet<'a> {
     {
         check_start(packet)?;
         check_rest(packet, own)?;
-        let end = INPUTS_AT + usize::from(packet[COUNT_AT]);
         Ok(Packet {
             first: u32::get(packet, FIRST_AT),
             ack: u32::get(packet, ACK_AT),
-            inputs: &packet[INPUTS_AT..end],
+            inputs: &packet[INPUTS_AT..],
         })
     }
 }

@@ -27,16 +27,16 @@ impl Packet<'_> {
         ensures read { IfOk result (λ n. (own : ℕ) → own < 2 ^ 32 → Proper own (message_of self.entry) → reading own (take n out.new) ≡ Ok (message_of self.entry)) }
         ensures bytes { out.new ≡ written_over (message_of self.entry) out.old }
     {
-        let many = self.inputs.len() > usize::from(MOST_INPUTS);
-        if many {
-            return Err(Unwritten::Overfull);
-        }
-        let end = INPUTS_AT + self.inputs.len();
+        let count = match u8::try_from(self.inputs.len()) {
+            Ok(count) if count <= MOST_INPUTS => count,
+            _ => return Err(Unwritten::Overfull),
+        };
+        let end = INPUTS_AT + usize::from(count);
         let short = out.len() < end;
         if short {
             return Err(Unwritten::NoRoom);
         }
-        put_head(out, self.first, self.inputs.len() as u8, self.ack);
+        put_head(out, self.first, count, self.ack);
         out[INPUTS_AT..end].copy_from_slice(self.inputs);
         Ok(end)
     }

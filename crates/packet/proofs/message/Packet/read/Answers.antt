@@ -1,4 +1,4 @@
-use Rattle.std.proofs.Common.{◌+◌, ◌-◌, Ok, Result, sym, ap, ◌∙◌, subst, arith}
+use Rattle.std.proofs.Common.{◌-◌, length, Ok, Result, sym, ap, ◌∙◌, subst, arith}
 use Rattle.std.proofs.lemmas.Result.{err_from_is_err_and}
 use Rattle.packet.specs.declared.fault.Fault.{Fault}
 use Rattle.packet.specs.Wire.{Message, Proper, message_bytes}
@@ -23,24 +23,24 @@ returns-in_err-check_rest c =
       back = tt;
     })
 
-pub bounds-packet-5 : goal.bounds-packet-5
-bounds-packet-5 c = let s = started c.args.packet.now (sym c.in_ok-check_start.ensures) in omega arith
-
 pub get-requires : goal.get-requires
 get-requires c = let t = ended c.args.own c.args.packet.now (sym c.in_ok-check_rest.ensures) in omega arith
 
 pub get-requires-2 : goal.get-requires-2
 get-requires-2 c = let t = ended c.args.own c.args.packet.now (sym c.in_ok-check_rest.ensures) in omega arith
 
-pub slice_bounds-result-end : goal.slice_bounds-result-end
-slice_bounds-result-end c = let t = ended c.args.own c.args.packet.now (sym c.in_ok-check_rest.ensures) in omega arith
+pub slice_bounds-result-count : goal.slice_bounds-result-count
+slice_bounds-result-count c = let t = ended c.args.own c.args.packet.now (sym c.in_ok-check_rest.ensures) in omega arith
+
+pub slice_bounds-result-start : goal.slice_bounds-result-start
+slice_bounds-result-start c = let t = ended c.args.own c.args.packet.now (sym c.in_ok-check_rest.ensures) in omega arith
 
 pub returns : goal.returns
 returns c =
     let xs = c.args.packet.now in
     let s = sym c.in_ok-check_start.ensures in
     let t = sym c.in_ok-check_rest.ensures in
-    let e = as_read xs c.get.result c.get-2.result ((10 + c.from-end.result) - 10) c.get.ensures c.get-2.ensures (omega arith) in
+    let e = as_read xs c.get.result c.get-2.result (length xs - 10) c.get.ensures c.get-2.ensures (omega (arith, (ended c.args.own xs t).exact)) in
     let ok : Message → Result Message Fault = λ m. Ok m in
     record {
       value = ap ok e ∙ sym (all_right c.args.own xs s t);
