@@ -1,5 +1,6 @@
 // The picture after any frame of a recording, from its bytes.
 ghost use Rattle.std.specs.Prelude.{◌≡◌, length};
+ghost use Rattle.recording.specs.declared.show.Unshown.TheVariants.{Recording as OfRecording, Picture as OfPicture};
 ghost use Rattle.recording.specs.Reading.{reading};
 ghost use Rattle.recording.specs.Showing.{said_shown, drawn_over};
 
@@ -28,25 +29,33 @@ pub enum Unshown {
     Picture,
 }
 
+impl From<Fault> for Unshown {
+    ghost from_gives = { λ fault unshown. unshown ≡ OfRecording fault };
+
+    fn from(fault: Fault) -> Unshown {
+        Unshown::Recording(fault)
+    }
+}
+
+impl From<Refused> for Unshown {
+    ghost from_gives = { λ _ unshown. unshown ≡ OfPicture };
+
+    fn from(_: Refused) -> Unshown {
+        Unshown::Picture
+    }
+}
+
 // Reads a recording and draws the picture after a frame, 0 for the start. Nothing else changes, and nothing where it is refused.
 pub fn show(bytes: &[u8], frame: usize, picture: &mut [u8]) -> Result<Shown, Unshown>
     ensures answer { result ≡ said_shown (reading bytes.now) frame (length picture.old) }
     ensures picture { picture.new ≡ drawn_over (reading bytes.now) frame picture.old }
 {
-    match Recording::read(bytes) {
-        Ok(recording) => {
-            let frames = recording.frames.len();
-            match recording.state_after(frame) {
-                Some(court) => match draw(court, picture) {
-                    Ok(()) => Ok(Shown {
-                        frames,
-                        score: court.state.score,
-                    }),
-                    Err(Refused::TooShort) => Err(Unshown::Picture),
-                },
-                None => Err(Unshown::Beyond(frames)),
-            }
-        }
-        Err(fault) => Err(Unshown::Recording(fault)),
-    }
+    let recording = Recording::read(bytes)?;
+    let frames = recording.frames.len();
+    let court = recording.state_after(frame).ok_or(Unshown::Beyond(frames))?;
+    draw(court, picture)?;
+    Ok(Shown {
+        frames,
+        score: court.state.score,
+    })
 }
