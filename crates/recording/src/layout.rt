@@ -2,6 +2,7 @@
 ghost use Rattle.std.specs.Prelude.{◌≡◌, ◌≤◌, min};
 ghost use Rattle.recording.specs.Matches.{match_length};
 
+use game::saved::STATE_BYTES;
 use peer::Peer;
 
 pub(crate) const MARK: [u8; 3] = *b"REC";
@@ -15,18 +16,12 @@ pub(crate) const FRAMES_AT: usize = 8;
 // Frames from one saved state to the next.
 pub(crate) const EVERY: usize = 600;
 
-// Bytes of a saved state.
-pub(crate) const STATE: usize = 64;
-
-// A peer's own inputs, as many as it has at most; behind them lie the other's.
-pub(crate) const HALF: usize = 1_000_000;
-
 // How long a recording of so many frames is.
 pub(crate) fn length_by(frames: usize) -> usize
     requires { frames ≤ 1000000 }
     ensures { result ≡ match_length frames }
 {
-    FRAMES_AT + frames + STATE * (frames / EVERY)
+    FRAMES_AT + frames + STATE_BYTES * (frames / EVERY)
 }
 
 // How long the recording of what a peer is sure of is.

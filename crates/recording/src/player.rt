@@ -1,15 +1,16 @@
 // Any moment of a recording, begun at the last saved state before it.
-ghost use Rattle.std.specs.Prelude.{◌≡◌, ◌*◌, ◌/◌, ◌<◌, ◌≤◌, map, length, take, MatchOption};
+ghost use Rattle.std.specs.Prelude.{◌≡◌, ◌*◌, ◌/◌, ◌<◌, ◌≤◌, map, length, take, MatchOption, IsSomeAnd};
 ghost use Rattle.court_game.specs.Games.{court_game};
 ghost use Rattle.game.specs.Plain.{plays, seat_0, seat_1};
 ghost use Rattle.recording.specs.Matches.{after_frames};
 ghost use Rattle.recording.specs.Reading.{Right};
 
 use crate::held::Recording;
-use crate::layout::{EVERY, STATE};
+use crate::layout::EVERY;
 use court::Court;
 use court_game::entry::Held;
 use court_game::snapshot::load_state;
+use game::saved::STATE_BYTES;
 
 // The frames behind the last saved state: at most 599.
 fn play_rest(from: Court, rest: &[u8]) -> Court
@@ -19,35 +20,27 @@ fn play_rest(from: Court, rest: &[u8]) -> Court
     game::plain::play_frames(Held(from), rest).0
 }
 
-// The state after so many times 600 frames.
-fn saved(recording: &Recording, marks: usize) -> Court
-    requires there { 64 * marks ≤ length recording.now.states.now }
-    requires early { marks ≤ length recording.now.frames.now / 600 }
-    ensures { Right recording.now → result.state ≡ after_frames (take (600 * marks) recording.now.frames.now) }
-{
-    let none = marks == 0;
-    if none {
-        return Court::new();
-    }
-    let end = STATE * marks;
-    load_state(&recording.states[end - STATE..end])
-}
-
 impl Recording<'_> {
+    // The state after so many times 600 frames; none where it is not saved.
+    fn saved(&self, marks: usize) -> Option<Court>
+        requires { marks ≤ length self.now.frames.now / 600 }
+        ensures { Right self.now → IsSomeAnd result (λ c. c.state ≡ after_frames (take (600 * marks) self.now.frames.now)) }
+    {
+        if marks == 0 {
+            return Some(Court::new());
+        }
+        let end = STATE_BYTES * marks;
+        let saved = self.states.get(end - STATE_BYTES..end)?;
+        Some(load_state(saved))
+    }
+
     // The state after a frame; none beyond the last.
     pub fn state_after(&self, frame: usize) -> Option<Court>
         ensures { Right self.now → MatchOption result (length self.now.frames.now < frame) (λ c. (frame ≤ length self.now.frames.now) × (c.state ≡ after_frames (take frame self.now.frames.now))) }
     {
-        let beyond = frame > self.frames.len();
-        if beyond {
-            return None;
-        }
+        let played = self.frames.get(..frame)?;
         let marks = frame / EVERY;
-        let short = self.states.len() < STATE * marks;
-        if short {
-            return None;
-        }
-        let from = saved(self, marks);
-        Some(play_rest(from, &self.frames[EVERY * marks..frame]))
+        let from = self.saved(marks)?;
+        Some(play_rest(from, &played[EVERY * marks..]))
     }
 }

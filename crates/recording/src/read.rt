@@ -7,11 +7,13 @@ ghost use Rattle.recording.specs.Reading.{count_in, head_checked, states_checked
 
 use crate::fault::Fault;
 use crate::held::Recording;
-use crate::layout::{COUNT_AT, EVERY, FRAMES_AT, HALF, MARK, STATE, WINDOW_AT};
+use crate::layout::{COUNT_AT, EVERY, FRAMES_AT, MARK, WINDOW_AT};
 use byte_numbers::LittleEndian;
 use court::Court;
 use court_game::entry::Held;
 use court_game::snapshot::save_state;
+use game::saved::STATE_BYTES;
+use peer::log::HALF;
 
 // How far two slices are the same from the front.
 fn same_front(xs: &[u8], ys: &[u8]) -> usize
@@ -70,9 +72,9 @@ fn check_head(bytes: &[u8]) -> Result<(), Fault>
 fn right_state(court: Court, bytes: &[u8]) -> usize
     ensures { result ≡ alike (take 64 bytes.now) (state_bytes court.state) }
 {
-    let mut due = [0; STATE];
+    let mut due = [0; STATE_BYTES];
     save_state(court, &mut due);
-    let end = bytes.len().min(STATE);
+    let end = bytes.len().min(STATE_BYTES);
     same_front(&bytes[0..end], &due)
 }
 
@@ -84,14 +86,14 @@ fn right_states(frames: &[u8], states: &[u8]) -> usize
     for j in 0..frames.len() / EVERY {
         let next = &frames[EVERY * j..EVERY * j + EVERY];
         state = game::plain::play_frames(Held(state), next).0;
-        let at = STATE * j;
+        let at = STATE_BYTES * j;
         let front = right_state(state, &states[at..states.len()]);
-        let differs = front < STATE;
+        let differs = front < STATE_BYTES;
         if differs {
             return at + front;
         }
     }
-    STATE * (frames.len() / EVERY)
+    STATE_BYTES * (frames.len() / EVERY)
 }
 
 // The saved states, behind a header and frames that are right.
@@ -104,7 +106,7 @@ fn check_states(bytes: &[u8], count: usize) -> Result<(), Fault>
     let at = FRAMES_AT + count;
     let states = &bytes[at..bytes.len()];
     let right = right_states(&bytes[FRAMES_AT..at], states);
-    let due = STATE * (count / EVERY);
+    let due = STATE_BYTES * (count / EVERY);
     let missing = right < due;
     if missing {
         let differs = right < states.len();

@@ -6,22 +6,22 @@ ghost use Rattle.peer.specs.Peers.{confirmed};
 ghost use Rattle.recording.specs.Matches.{frame_bytes, marks, match_length, match_of};
 ghost use Rattle.recording.specs.Writing.{writing, written_over};
 
-use crate::layout::{COUNT_AT, EVERY, FRAMES_AT, HALF, STATE, WINDOW_AT, length_by};
+use crate::layout::{COUNT_AT, EVERY, FRAMES_AT, MARK, WINDOW_AT, length_by};
 use byte_numbers::LittleEndian;
 use court::Court;
 use court_game::entry::Held;
 use court_game::snapshot::save_state;
+use game::saved::STATE_BYTES;
 use game::seat::Seat;
 use peer::Peer;
+use peer::log::HALF;
 
 // The fields before the frames.
 fn put_head(out: &mut [u8], window: u8, count: u32)
     requires { 8 ≤ length out.old }
     ensures { out.new ≡ overwritten out.old 0 (82 ∷ (69 ∷ (67 ∷ (window ∷ little 4 count)))) }
 {
-    out[0] = b'R';
-    out[1] = b'E';
-    out[2] = b'C';
+    out[..WINDOW_AT].copy_from_slice(&MARK);
     out[WINDOW_AT] = window;
     count.put(out, COUNT_AT);
 }
@@ -45,8 +45,8 @@ fn put_states(out: &mut [u8], frames: usize)
     for j in 0..frames / EVERY {
         let next = FRAMES_AT + EVERY * j;
         state = game::plain::play_frames(Held(state), &out[next..next + EVERY]).0;
-        let at = FRAMES_AT + frames + STATE * j;
-        save_state(state, &mut out[at..at + STATE]);
+        let at = FRAMES_AT + frames + STATE_BYTES * j;
+        save_state(state, &mut out[at..at + STATE_BYTES]);
     }
 }
 

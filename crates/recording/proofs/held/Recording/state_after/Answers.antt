@@ -1,20 +1,29 @@
 use Rattle.std.proofs.Common.{◌≡◌, ◌-◌, ◌*◌, ◌/◌, map, length, take, drop, sym, ap, ◌∙◌, arith}
+use Rattle.std.proofs.lemmas.List.{take_all, take-take}
 use Rattle.court_game.specs.Games.{court_game}
 use Rattle.game.specs.Plain.{plays, seat_0, seat_1}
-use Rattle.recording.proofs.Frames.{after_on, length_marks}
+use Rattle.recording.specs.Matches.{after_frames}
+use Rattle.recording.proofs.Frames.{after_on}
 use Rattle.recording.proofs.held.Recording.state_after.Goals as goal
 
-pub returns-then-short : goal.returns-then-short
-returns-then-short c =
-    λ right.
-    let fs = c.args.self.now.frames.now in
-    let n : length c.args.self.now.states.now ≡ 64 * (length fs / 600) = ap length right ∙ length_marks fs (length fs / 600) in
-    omega arith
+pub returns-in_err-from : goal.returns-in_err-from
+returns-in_err-from c = λ right. absurd (c.in_err-from.ensures right)
 
 pub returns : goal.returns
 returns c =
     λ right.
     let fs = c.args.self.now.frames.now in
-    let k = 600 * (c.args.frame / 600) in
-    let rest = take (c.args.frame - k) (drop k fs) in
-    (c.if-beyond.false, c.play_rest.ensures ∙ ap (λ s. plays court_game s (map seat_0 rest) (map seat_1 rest)) (c.saved-from.ensures right) ∙ sym (after_on fs k (c.args.frame - k) c.args.frame (omega arith)))
+    let n = c.args.frame in
+    let k = 600 * (n / 600) in
+    let played = c.in_ok-played.played.now in
+    let rest = take (length played - k) (drop k played) in
+    let long : length played ≡ n = omega (arith, c.in_ok-played.ensures.lookup.0.3) in
+    let z : n - 0 ≡ n = omega arith in
+    let e : played ≡ take n fs = c.in_ok-played.ensures.lookup.0.2 ∙ ap (λ i. take i fs) z in
+    let before : take k fs ≡ take k played = sym (ap (take k) e ∙ take-take k n fs (omega arith)) in (
+      c.in_ok-played.ensures.lookup.0.1,
+      c.play_rest.ensures
+          ∙ ap (λ s. plays court_game s (map seat_0 rest) (map seat_1 rest)) (c.in_ok-from.ensures right ∙ ap after_frames before)
+          ∙ sym (after_on played k (length played - k) (length played) (omega arith))
+          ∙ ap after_frames (take_all (length played) played (omega arith) ∙ e),
+    )

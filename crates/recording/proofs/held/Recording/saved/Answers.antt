@@ -1,0 +1,31 @@
+use Rattle.std.proofs.Common.{◌≡◌, ◌-◌, ◌*◌, ◌/◌, map, length, take, sym, ap, ◌∙◌, arith}
+use Rattle.court.proofs.Stays.{start_in}
+use Rattle.court.specs.Frame.{start}
+use Rattle.court_game.proofs.Stays.{plays_in}
+use Rattle.game.specs.Plain.{plays, seat_0, seat_1}
+use Rattle.recording.specs.Matches.{after_frames}
+use Rattle.recording.proofs.Frames.{length_marks}
+use Rattle.recording.proofs.Marked.{saved_at}
+use Rattle.recording.proofs.held.Recording.saved.Goals as goal
+
+pub returns-then-marks-eq0 : goal.returns-then-marks-eq0
+unfolding plays
+returns-then-marks-eq0 c =
+    λ _. c.new.ensures.value ∙ ap (λ m. after_frames (take (600 * m) c.args.self.now.frames.now)) (sym c.if-marks-eq0.true)
+
+pub returns-in_err-saved : goal.returns-in_err-saved
+returns-in_err-saved c =
+    λ right.
+    let fs = c.args.self.now.frames.now in
+    let long : length c.args.self.now.states.now ≡ 64 * (length fs / 600) = ap length right ∙ length_marks fs (length fs / 600) in
+    absurd (omega (arith, c.in_err-saved.ensures.lookup.0))
+
+pub returns : goal.returns
+returns c =
+    λ right.
+    let fs = c.args.self.now.frames.now in
+    let states = c.args.self.now.states.now in
+    let n = c.args.marks in
+    let gs = take (600 * n) fs in
+    let bytes = saved_at states fs n (length fs / 600) (64 * n - (64 * n - 64)) right (omega arith) c.requires (omega arith) in
+    c.load_state.ensures.saved (after_frames gs) (plays_in start start_in (map seat_0 gs) (map seat_1 gs)) (c.in_ok-saved.ensures.lookup.0.2 ∙ bytes)
