@@ -4,13 +4,11 @@ use Rattle.std.proofs.lemmas.List.{take_at, drop_at, drop-drop, append-nil}
 use Rattle.std.proofs.lemmas.Bool.Decides.{nat_tests}
 use Rattle.byte_numbers.specs.Little.{little}
 use Rattle.byte_numbers.specs.Numbers.{number_little}
-use Rattle.peer.specs.Peers.{alike}
 use Rattle.recording.specs.declared.fault.Fault.{Fault}
 use Rattle.recording.specs.Matches.{Match, marks, match_bytes}
 use Rattle.recording.specs.Reading.{count_in, frames_in, states_in, due_in, head_checked, states_checked, reading, Proper}
 use Rattle.recording.specs.Promise.{WrittenRead, ReadWritten, OneAtMost, RefusedExactly}
-use Rattle.recording.proofs.Alikes.{alike_after}
-use Rattle.recording.proofs.Checks.{Headed, headed, heads, states_right}
+use Rattle.recording.proofs.Checks.{Headed, headed, heads, states_right, states_fit}
 use Rattle.recording.proofs.Frames.{length_marks}
 use Rattle.recording.proofs.Readings.{found_in, bad_head, bad_states, all_right, read_back, read_proper}
 
@@ -44,26 +42,9 @@ written_head m p =
     let n = count_is m p in
     let few = p.few in
     let long = written_long m in
-    record { mark = omega arith; long = omega arith; near = p.near; few = omega arith; whole = omega arith }
-
-alike_self : (xs : List ℕ) → alike xs xs ≡ length xs
-alike_self xs =
-    ap (λ zs. alike zs xs) (sym (append-nil xs)) ∙ ap (alike (xs ++ [])) (sym (append-nil xs)) ∙ alike_after xs [] [] ∙ (omega arith)
-
-states_fit : (xs : List ℕ) → states_in xs ≡ due_in xs → states_checked xs ≡ Ok tt
-unfolding states_checked
-states_fit xs e =
-    let n : length (states_in xs) ≡ length (due_in xs) = ap length e in
-    let all : alike (states_in xs) (due_in xs) ≡ length (due_in xs) = ap (λ zs. alike zs (due_in xs)) e ∙ alike_self (due_in xs) in
-    grind (arith, nat_tests)
+    record { mark = refl; long = omega arith; near = p.near; few = omega arith; whole = omega arith }
 
 -- ---- what is promised
-
-ok_is_not_err : {f : Fault} {m : Match} → ◌≡◌ {A = Result Match Fault} (Err f) (Ok m) → ⊥
-ok_is_not_err e = let z : ◌≡◌ {A = ℕ} 0 1 = cc in omega arith
-
-ok_same : {m n : Match} → ◌≡◌ {A = Result Match Fault} (Ok m) (Ok n) → m ≡ n
-ok_same e = cc
 
 pub written_read : WrittenRead
 written_read m p =
@@ -73,24 +54,21 @@ written_read m p =
 -- the checks of what is taken went well
 checked : (xs : List ℕ) (m : Match) (s t : Result (Unit {0}) Fault) → head_checked xs ≡ s → states_checked xs ≡ t → reading xs ≡ Ok m → (head_checked xs ≡ Ok tt) × (states_checked xs ≡ Ok tt)
 checked xs m (Ok u) (Ok v) d e h = (d, e)
-checked xs m (Ok u) (Err f) d e h = let no : ◌≡◌ {A = Result Match Fault} (Err f) (Ok m) = sym (bad_states xs f d e) ∙ h in absurd (ok_is_not_err no)
-checked xs m (Err f) t d e h = let no : ◌≡◌ {A = Result Match Fault} (Err f) (Ok m) = sym (bad_head xs f d) ∙ h in absurd (ok_is_not_err no)
+checked xs m (Ok u) (Err f) d e h = let no : ⊥ = cc (bad_states xs f d e) in absurd no
+checked xs m (Err f) t d e h = let no : ⊥ = cc (bad_head xs f d) in absurd no
 
 pub read_written : ReadWritten
 read_written xs m b h =
     let k = checked xs m (head_checked xs) (states_checked xs) refl refl h in
     let s : Headed xs = headed xs k.0 in
-    let e : found_in xs ≡ m = ok_same (sym (all_right xs k.0 k.1) ∙ h) in
+    let e : found_in xs ≡ m = cc (all_right xs k.0 k.1) in
     (ap match_bytes (sym e) ∙ read_back xs b s (states_right xs k.1), subst Proper e (read_proper xs b s))
 
 pub one_at_most : OneAtMost
-one_at_most m n h k e = ok_same (sym (written_read m h) ∙ ap reading e ∙ written_read n k)
+one_at_most m n h k e = cc (written_read m h, written_read n k, ap reading e)
 
 pub refused_exactly : RefusedExactly
-refused_exactly xs b = (
-  λ f e m h w. ok_is_not_err (sym e ∙ sym (ap reading w) ∙ written_read m h),
-  λ none. by (reading xs) refl none,
-)
+refused_exactly xs b = (λ f e m h w. cc (ap reading w, written_read m h), λ none. by (reading xs) refl none)
   where
     by : (r : Result Match Fault) → reading xs ≡ r → ((m : Match) → Proper m → match_bytes m ≡ xs → ⊥) → is_err (reading xs) ≡ true
     by (Ok m) e none = let p = read_written xs m b e in absurd (none m p.1 p.0)

@@ -1,5 +1,5 @@
-pub mod Alikes
 pub mod Checks
+pub mod Differences
 pub mod Frames
 pub mod Inverse
 pub mod Lowest

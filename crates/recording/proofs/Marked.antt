@@ -1,12 +1,16 @@
 -- Saved states against those that the frames give. Assumes nothing.
-use Rattle.std.proofs.Common.{◌≡◌, ℕ, zero, suc, ◌+◌, ◌-◌, ◌*◌, ◌<◌, ◌≤◌, List, [], ◌++◌, length, take, drop, sym, refl, ap, ◌∙◌, arith, length-drop, length-take}
-use Rattle.std.proofs.lemmas.List.{append-nil, append_assoc, take-append-drop, take_at, take_rest, drop_at}
+use Rattle.std.proofs.Common.{◌≡◌, ℕ, zero, suc, ◌+◌, ◌-◌, ◌*◌, ◌/◌, ◌<◌, ◌≤◌, ◌⊎◌, min, List, [], ◌++◌, map, length, get_or, take, drop, Some, None, sym, refl, ap, ◌∙◌, inl, inr, arith, length-append, length-drop, length-take}
+use Rattle.std.proofs.lemmas.List.{append-nil, append_assoc, take_at, take_min, drop_at, drop_min, drop-drop, get_or-take, get_or-drop}
+use Rattle.std.proofs.lemmas.Bool.{cases_lt}
+use Rattle.byte_numbers.specs.Little.{part}
 use Rattle.court.specs.declared.state.State.{State}
+use Rattle.court_game.specs.Games.{court_game}
 use Rattle.court_game.specs.Snapshots.{state_bytes}
-use Rattle.peer.specs.Peers.{alike}
+use Rattle.game.specs.Plain.{plays, seat_0, seat_1}
 use Rattle.recording.specs.Matches.{after_frames, marks}
-use Rattle.recording.proofs.Alikes.{alike_after, alike_none, alike_front, alike_first, alike_all}
-use Rattle.recording.proofs.Frames.{marks_more, length_marks, take_on}
+use Rattle.recording.specs.Reading.{differing}
+use Rattle.recording.proofs.Differences.{Alike, same_below, differing_some, differing_none, differs_at, differs_nowhere}
+use Rattle.recording.proofs.Frames.{after_part, marks_more, length_marks}
 
 -- the state after the frames of one part more
 abbrev pub mark_bytes_at : List ℕ → ℕ → List ℕ
@@ -23,61 +27,132 @@ marks_rest fs j (suc i) =
     let next : List ℕ = mark_bytes_at fs (j + i) in
     (before.0 ++ next, ap (marks fs) n ∙ marks_more fs (j + i) ∙ ap (λ zs. zs ++ next) before.1 ∙ append_assoc (marks fs j) before.0 next)
 
-pub marks_at : (fs : List ℕ) (j m : ℕ) → j < m → (rest : List ℕ) × (marks fs m ≡ marks fs j ++ (mark_bytes_at fs j ++ rest))
-marks_at fs j m h =
+-- a state by its number
+pub mark_part : (fs : List ℕ) (j m : ℕ) → j < m → part (marks fs m) (64 * j) 64 ≡ mark_bytes_at fs j
+mark_part fs j m h =
     let r = marks_rest fs (j + 1) (m - (j + 1)) in
     let n : m ≡ j + 1 + (m - (j + 1)) = omega arith in
-    (r.0, ap (marks fs) n ∙ r.1 ∙ ap (λ zs. zs ++ r.0) (marks_more fs j) ∙ append_assoc (marks fs j) (mark_bytes_at fs j) r.0)
-
--- bytes whose first states are right
-split_at : (states fs : List ℕ) (j : ℕ) → take (64 * j) states ≡ marks fs j → states ≡ marks fs j ++ drop (64 * j) states
-split_at states fs j e = sym (take-append-drop (64 * j) states) ∙ ap (λ zs. zs ++ drop (64 * j) states) e
-
--- how far the next one is right, as the code compares it
-pub front_is : (states fs : List ℕ) (j front : ℕ) (t : State) → t ≡ after_frames (take (600 * (j + 1)) fs) → front ≡ alike (take 64 (take (length states - 64 * j) (drop (64 * j) states))) (state_bytes t) → front ≡ alike (take 64 (drop (64 * j) states)) (mark_bytes_at fs j)
-front_is states fs j front t e f =
-    f
-    ∙ ap (λ zs. alike (take 64 zs) (state_bytes t)) (take_rest states (64 * j))
-    ∙ ap (λ s. alike (take 64 (drop (64 * j) states)) (state_bytes s)) e
-
--- the next one differs
-pub differs_at : (states fs : List ℕ) (j m n : ℕ) → j < m → take (64 * j) states ≡ marks fs j → n ≡ alike (take 64 (drop (64 * j) states)) (mark_bytes_at fs j) → n < 64 → 64 * j + n ≡ alike states (marks fs m)
-differs_at states fs j m n h e front less =
-    let r = marks_at fs j m h in
-    let zs : List ℕ = drop (64 * j) states in
-    let here : alike zs (mark_bytes_at fs j ++ r.0) ≡ alike (take 64 zs) (mark_bytes_at fs j) = alike_front zs (mark_bytes_at fs j) r.0 64 refl (omega arith) in
-    let whole : alike states (marks fs m) ≡ length (marks fs j) + alike zs (mark_bytes_at fs j ++ r.0) =
-    ap (λ ys. alike ys (marks fs m)) (split_at states fs j e) ∙ ap (alike (marks fs j ++ zs)) r.1 ∙ alike_after (marks fs j) zs (mark_bytes_at fs j ++ r.0) in
-    omega (arith, length_marks fs j)
-
--- the next one is right
-pub right_at : (states fs : List ℕ) (j : ℕ) → take (64 * j) states ≡ marks fs j → 64 * j ≤ length states → 64 ≤ alike (take 64 (drop (64 * j) states)) (mark_bytes_at fs j) → (take (64 * (j + 1)) states ≡ marks fs (j + 1)) × (64 * (j + 1) ≤ length states)
-right_at states fs j e h whole =
-    let zs : List ℕ = take 64 (drop (64 * j) states) in
-    let most = alike_first zs (mark_bytes_at fs j) in
-    let long : length zs ≡ 64 = omega (arith, length-take 64 (drop (64 * j) states)) in
-    let same : zs ≡ mark_bytes_at fs j = alike_all zs (mark_bytes_at fs j) long (omega arith) in
-    (take_on states (64 * j) 64 (64 * (j + 1)) (omega arith) ∙ ap (λ ys. ys ++ zs) e ∙ ap (λ ys. marks fs j ++ ys) same ∙ sym (marks_more fs j), omega (arith, length-take 64 (drop (64 * j) states), length-drop (64 * j) states))
-
--- all are right
-pub right_all : (states fs : List ℕ) (m : ℕ) → take (64 * m) states ≡ marks fs m → 64 * m ≡ alike states (marks fs m)
-right_all states fs m e =
-    let zs : List ℕ = drop (64 * m) states in
-    let whole : alike states (marks fs m) ≡ length (marks fs m) + alike zs [] =
-    ap (λ ys. alike ys (marks fs m)) (split_at states fs m e) ∙ ap (alike (marks fs m ++ zs)) (sym (append-nil (marks fs m))) ∙ alike_after (marks fs m) zs [] in
-    omega (arith, length_marks fs m, alike_none zs)
+    let front = marks fs j in
+    let here : List ℕ = mark_bytes_at fs j in
+    let whole : marks fs m ≡ front ++ (here ++ r.0) =
+    ap (marks fs) n ∙ r.1 ∙ ap (λ zs. zs ++ r.0) (marks_more fs j) ∙ append_assoc front here r.0 in
+    ap (λ zs. part zs (64 * j) 64) whole
+    ∙ ap (take 64) (drop_at front (here ++ r.0) (64 * j) (length_marks fs j))
+    ∙ take_at here r.0 64 refl
 
 -- a saved state by its number, as the code reads it
 pub saved_at : (states fs : List ℕ) (n m k : ℕ) → states ≡ marks fs m → 0 < n → n ≤ m → k ≡ 64 → take k (drop (64 * n - 64) states) ≡ state_bytes (after_frames (take (600 * n) fs))
 saved_at states fs n m k e some h f =
     let j : ℕ = n - 1 in
-    let r = marks_at fs j m (omega arith) in
     let at : 64 * n - 64 ≡ 64 * j = omega arith in
     let next : j + 1 ≡ n = omega arith in
-    let whole : states ≡ marks fs j ++ (mark_bytes_at fs j ++ r.0) = e ∙ r.1 in
     ap (λ i. take i (drop (64 * n - 64) states)) f
     ∙ ap (λ i. take 64 (drop i states)) at
-    ∙ ap (λ zs. take 64 (drop (64 * j) zs)) whole
-    ∙ ap (take 64) (drop_at (marks fs j) (mark_bytes_at fs j ++ r.0) (64 * j) (length_marks fs j))
-    ∙ take_at (mark_bytes_at fs j) r.0 64 refl
+    ∙ ap (λ zs. part zs (64 * j) 64) e
+    ∙ mark_part fs j m (omega arith)
     ∙ ap (λ i. state_bytes (after_frames (take (600 * i) fs))) next
+
+-- ---- rows that are compared part by part
+
+part_byte : (xs : List ℕ) (n k i : ℕ) → i < k → get_or (part xs n k) i 0 ≡ get_or xs (n + i) 0
+part_byte xs n k i h = get_or-take k (drop n xs) i 0 h ∙ get_or-drop n xs i 0
+
+length_part : (xs : List ℕ) (n k : ℕ) → length (part xs n k) ≡ min k (length xs - n)
+length_part xs n k = simp (length-take, length-drop)
+
+-- a part that does not differ
+alike_on : (xs ys : List ℕ) (n k : ℕ) → Alike xs ys n → differing (part xs n k) (part ys n k) ≡ None → Alike xs ys (n + k)
+alike_on xs ys n k same e =
+    λ i l a b.
+    elim (cases_lt i n) [
+      | inl h ↦ same i h a b
+      | inr h ↦
+          let lx = length_part xs n k in
+          let ly = length_part ys n k in
+          let at : n + (i - n) ≡ i = omega arith in
+          let none = differing_none (part xs n k) (part ys n k) e in
+          let here = same_below (part xs n k) (part ys n k) (i - n) (omega arith) (omega arith) (omega arith) in
+          ap (λ j. get_or xs j 0) (sym at) ∙ sym (part_byte xs n k (i - n) (omega arith)) ∙ here ∙ part_byte ys n k (i - n) (omega arith) ∙ ap (λ j. get_or ys j 0) at
+    ]
+
+-- the first part that differs
+differs_on : (xs ys : List ℕ) (n k a : ℕ) → Alike xs ys n → differing (part xs n k) (part ys n k) ≡ Some a → (differing xs ys ≡ Some (n + a)) × (n + a < length xs)
+differs_on xs ys n k a same e =
+    let h = differing_some (part xs n k) (part ys n k) a e in
+    let lx = length_part xs n k in
+    let ly = length_part ys n k in
+    let before : Alike xs ys (n + a) = λ i l x y.
+    elim (cases_lt i n) [
+      | inl g ↦ same i g x y
+      | inr g ↦
+          let at : n + (i - n) ≡ i = omega arith in
+          ap (λ j. get_or xs j 0) (sym at) ∙ sym (part_byte xs n k (i - n) (omega arith)) ∙ same_below (part xs n k) (part ys n k) (i - n) (omega arith) (omega arith) (omega arith) ∙ part_byte ys n k (i - n) (omega arith) ∙ ap (λ j. get_or ys j 0) at
+    ] in (
+      differs_at xs ys (n + a) (omega arith) (omega arith) before (λ same_here. h.3 (part_byte xs n k a (omega arith) ∙ same_here ∙ sym (part_byte ys n k a (omega arith)))),
+      omega arith,
+    )
+
+-- ---- the loop over the saved states
+
+-- so many were compared and are right; what is left of the frames and of the states
+pub record Compared (fs states : List ℕ) (state : State) (j : ℕ) (fs_left states_left : List ℕ) : Type 0 where
+  pub fs_are : fs_left ≡ drop (600 * j) fs
+  pub states_are : states_left ≡ drop (64 * j) states
+  pub state_is : state ≡ after_frames (take (600 * j) fs)
+  pub right : Alike states (marks fs (length fs / 600)) (64 * j)
+  pub within : 600 * j ≤ length fs
+
+-- the front of what is left, and what is left then
+cut : (xs front rest : List ℕ) (n k : ℕ) → front ++ rest ≡ drop n xs → length front ≡ min k (length (drop n xs)) → (front ≡ part xs n k) × (rest ≡ drop (n + k) xs)
+cut xs front rest n k e l =
+    let ys : List ℕ = drop n xs in
+    (sym (take_at front rest _ l) ∙ ap (take (min k (length ys))) e ∙ take_min k ys, sym (drop_at front rest _ l) ∙ ap (drop (min k (length ys))) e ∙ drop_min k ys ∙ drop-drop k n xs)
+
+-- one more: its frames, its bytes, and those that are due
+pub record Turned (fs states : List ℕ) (state : State) (j : ℕ) (saved fs_next states_next : List ℕ) : Type 0 where
+  pub early : 600 * (j + 1) ≤ length fs
+  pub saved_is : saved ≡ part states (64 * j) 64
+  pub state_is : state ≡ after_frames (take (600 * (j + 1)) fs)
+  pub due_is : state_bytes state ≡ part (marks fs (length fs / 600)) (64 * j) 64
+  pub fs_are : fs_next ≡ drop (600 * (j + 1)) fs
+  pub states_are : states_next ≡ drop (64 * (j + 1)) states
+
+pub turned : (fs states : List ℕ) (s t : State) (j : ℕ) (fs_left states_left next saved fs_next states_next : List ℕ) → Compared fs states s j fs_left states_left → fs_left ≡ next ++ fs_next → length next ≡ 600 → states_left ≡ saved ++ states_next → length saved ≡ min 64 (length states_left) → t ≡ plays court_game s (map seat_0 next) (map seat_1 next) → Turned fs states t j saved fs_next states_next
+turned fs states s t j fs_left states_left next saved fs_next states_next c e m f n is =
+    let a = ap length e ∙ length-append next fs_next in
+    let b = ap length c.fs_are in
+    let d = length-drop (600 * j) fs in
+    let g = cut fs next fs_next (600 * j) 600 (sym e ∙ c.fs_are) (omega arith) in
+    let h = cut states saved states_next (64 * j) 64 (sym f ∙ c.states_are) (n ∙ ap (λ zs. min 64 (length zs)) c.states_are) in
+    let p : 600 * j + 600 ≡ 600 * (j + 1) = omega arith in
+    let q : 64 * j + 64 ≡ 64 * (j + 1) = omega arith in
+    let now : t ≡ after_frames (take (600 * (j + 1)) fs) = after_part fs next j 600 s t refl g.0 c.state_is is in
+    record {
+      early = omega arith;
+      saved_is = h.0;
+      state_is = now;
+      due_is = ap state_bytes now ∙ sym (mark_part fs j (length fs / 600) (omega arith));
+      fs_are = g.1 ∙ ap (λ i. drop i fs) p;
+      states_are = h.1 ∙ ap (λ i. drop i states) q;
+    }
+
+pub compared_more : (fs states : List ℕ) (t : State) (j : ℕ) (saved fs_next states_next : List ℕ) → Alike states (marks fs (length fs / 600)) (64 * j) → Turned fs states t j saved fs_next states_next → differing saved (state_bytes t) ≡ None → Compared fs states t (j + 1) fs_next states_next
+compared_more fs states t j saved fs_next states_next same c e =
+    let due : List ℕ = marks fs (length fs / 600) in
+    let here = ap (λ zs. differing zs (part due (64 * j) 64)) (sym c.saved_is) ∙ ap (differing saved) (sym c.due_is) ∙ e in
+    let more = alike_on states due (64 * j) 64 same here in
+    record { fs_are = c.fs_are; states_are = c.states_are; state_is = c.state_is; right = λ i l. more i (omega arith); within = c.early }
+
+pub found : (fs states : List ℕ) (t : State) (j k : ℕ) (saved fs_next states_next : List ℕ) → Alike states (marks fs (length fs / 600)) (64 * j) → Turned fs states t j saved fs_next states_next → differing saved (state_bytes t) ≡ Some k → (differing states (marks fs (length fs / 600)) ≡ Some (64 * j + k)) × (64 * j + k < length states)
+found fs states t j k saved fs_next states_next same c e =
+    let due : List ℕ = marks fs (length fs / 600) in
+    differs_on states due (64 * j) 64 k same (ap (λ zs. differing zs (part due (64 * j) 64)) (sym c.saved_is) ∙ ap (differing saved) (sym c.due_is) ∙ e)
+
+-- where there are no more frames for a state, or no more bytes
+pub all_compared : (fs states : List ℕ) (s : State) (j : ℕ) (fs_left states_left : List ℕ) → Compared fs states s j fs_left states_left → (length fs_left < 600) ⊎ (length states_left ≡ 0) → differing states (marks fs (length fs / 600)) ≡ None
+all_compared fs states s j fs_left states_left c end =
+    let within = c.within in
+    let a = ap length c.fs_are ∙ length-drop (600 * j) fs in
+    let b = ap length c.states_are ∙ length-drop (64 * j) states in
+    let m = length_marks fs (length fs / 600) in
+    differs_nowhere _ _ (λ i l x y. c.right i (omega arith) x y)

@@ -1,7 +1,7 @@
 -- How bytes are read as a recording or refused. Assumes nothing: these are definitions.
-use Rattle.std.specs.Prelude.{◌≡◌, ℕ, ◌+◌, ◌/◌, ◌<◌, ◌≤◌, cond, ◌||◌, List, [], ◌∷◌, length, drop, Ok, Err, Result, nat_lt, slice_index}
+use Rattle.std.specs.Prelude.{◌≡◌, ℕ, ◌+◌, ◌/◌, ◌<◌, ◌≤◌, cond, not, ◌||◌, List, [], ◌∷◌, length, drop, position, Option, Some, None, Ok, Err, Result, MatchResult, ◌==◌, nat_lt, slice_index}
+use Rattle.std.specs.List.{zip}
 use Rattle.byte_numbers.specs.Little.{number_of, part}
-use Rattle.peer.specs.Peers.{alike}
 use Rattle.recording.specs.declared.fault.Fault.{Fault}
 use Rattle.recording.specs.declared.fault.Fault.TheVariants.{NoMark, CutShort, Window, TooMany, WrongState, TooLong}
 use Rattle.recording.specs.declared.held.Recording.{Recording}
@@ -40,11 +40,19 @@ due_in xs = marks (frames_in xs) (count_in xs / 600)
 
 -- ---- checks, in the order of their places
 
+-- where two rows first differ, as far as both go
+abbrev pub differing : List ℕ → List ℕ → Option ℕ
+differing xs ys = position (λ (p : ℕ × ℕ). not (p.0 == p.1)) (zip xs ys)
+
+-- a fault where rows differ, and else what comes behind it
+abbrev pub told_or : Option ℕ → (ℕ → Fault) → Result (Unit {0}) Fault → Result (Unit {0}) Fault
+told_or (Some at) fault next = Err (fault at)
+told_or None fault next = next
+
 -- the header and the frames
 unfoldable pub head_checked : List ℕ → Result (Unit {0}) Fault
 head_checked xs =
-    cond (nat_lt (alike xs mark_bytes) 3)
-    (cond (nat_lt (alike xs mark_bytes) (length xs)) (Err (NoMark (alike xs mark_bytes))) (Err (CutShort (length xs))))
+    told_or (differing xs mark_bytes) NoMark
     (cond (nat_lt (length xs) 4) (Err (CutShort (length xs)))
     (cond (nat_lt (window_in xs) 1 || nat_lt 60 (window_in xs)) (Err Window)
     (cond (nat_lt (length xs) 8) (Err (CutShort (length xs)))
@@ -52,14 +60,14 @@ head_checked xs =
     (cond (nat_lt (length xs) (8 + count_in xs)) (Err (CutShort (length xs)))
     (Ok tt))))))
 
--- the saved states: how far they are those that the frames give, of how many bytes there are and have to be
-abbrev pub states_told : ℕ → ℕ → ℕ → ℕ → Result (Unit {0}) Fault
-states_told at right there due =
-    cond (nat_lt right due) (cond (nat_lt right there) (Err (WrongState (at + right))) (Err (CutShort (at + there))))
-    (cond (nat_lt due there) (Err (TooLong (at + due))) (Ok tt))
+-- the saved states: where they are not those that the frames give, how many bytes there are, and how many there have to be
+abbrev pub states_told : ℕ → Option ℕ → ℕ → ℕ → Result (Unit {0}) Fault
+states_told at wrong there due =
+    told_or wrong (λ k. WrongState (at + k))
+    (cond (nat_lt there due) (Err (CutShort (at + there))) (cond (nat_lt due there) (Err (TooLong (at + due))) (Ok tt)))
 
 unfoldable pub states_checked : List ℕ → Result (Unit {0}) Fault
-states_checked xs = states_told (8 + count_in xs) (alike (states_in xs) (due_in xs)) (length (states_in xs)) (length (due_in xs))
+states_checked xs = states_told (8 + count_in xs) (differing (states_in xs) (due_in xs)) (length (states_in xs)) (length (due_in xs))
 
 -- one check behind the other: the first refusal counts
 abbrev pub and_then : {A B E : Type 0} → Result A E → Result B E → Result B E
@@ -77,6 +85,13 @@ match_in r = record { window = r.window; frames = r.frames.now }
 abbrev pub read_as : Result Recording Fault → Result Match Fault
 read_as (Ok r) = Ok (match_in r)
 read_as (Err f) = Err f
+
+-- the parts of bytes whose header and frames are right, or what is wrong with those
+abbrev pub PartsOf : List ℕ → Result Recording Fault → Type 0
+PartsOf xs r =
+    MatchResult r
+    (λ m. (head_checked xs ≡ Ok tt) × (m.window ≡ window_in xs) × (m.frames.now ≡ frames_in xs) × (m.states.now ≡ states_in xs))
+    (λ f. head_checked xs ≡ Err f)
 
 -- its saved states are those that its frames give
 abbrev pub Right : Recording → Type 0

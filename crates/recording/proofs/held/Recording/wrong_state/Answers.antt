@@ -1,0 +1,62 @@
+use Rattle.std.proofs.Common.{◌≡◌, ℕ, ◌+◌, ◌*◌, ◌<◌, min, length, Some, refl, sym, ap, ◌∙◌, arith, length-drop, inl, inr}
+use Rattle.std.specs.Iterator.Adapters.{enumerate_source, enumerate_count, zip_first, zip_second}
+use Rattle.std.specs.Slice.Iter.{chunks_rest, chunks_size, chunks_exact_rest, chunks_exact_size}
+use Rattle.game.specs.Plain.{plays}
+use Rattle.recording.specs.Matches.{marks}
+use Rattle.recording.specs.Reading.{differing}
+use Rattle.recording.proofs.Marked.{turned, compared_more, found, all_compared}
+use Rattle.recording.proofs.held.Recording.wrong_state.Goals as goal
+
+pub loop-j-init : goal.loop-j-init
+unfolding marks plays
+loop-j-init c =
+    let it = c.into_iter-j-iterator.result in
+    let source = ap enumerate_source c.into_iter-j-iterator.ensures.into_iter_gives ∙ c.enumerate-j-items.ensures.source in
+    let first = ap zip_first source ∙ c.zip.ensures.first in
+    let second = ap zip_second source ∙ c.zip.ensures.second in
+    let many : chunks_exact_size (zip_first (enumerate_source it)) ≡ 600 = ap chunks_exact_size first ∙ c.chunks_exact-parts.ensures.size in
+    let big : chunks_size (zip_second (enumerate_source it)) ≡ 64 = ap chunks_size second ∙ c.chunks.ensures.size in
+    let none : enumerate_count it ≡ 0 = ap enumerate_count c.into_iter-j-iterator.ensures.into_iter_gives ∙ c.enumerate-j-items.ensures.count in
+    let frames = ap chunks_exact_rest first ∙ c.chunks_exact-parts.ensures.rest in
+    let states = ap chunks_rest second ∙ c.chunks.ensures.rest in (
+      ((omega arith, omega arith), tt, inl (let n = ap length frames in simp (many, none) (omega arith))),
+      tt,
+      (many, big, simp none (record { fs_are = frames; states_are = states; state_is = c.new-state.ensures.value; right = λ i l. absurd (omega arith); within = omega arith })),
+    )
+
+pub overflow_add-result : goal.overflow_add-result
+overflow_add-result c =
+    let s = c.in-Some.ensures.steps in
+    let before = c.loop-j.invariant.2.2 in
+    let left = chunks_rest (zip_second (enumerate_source c.loop-j.j-iterator)) in
+    let t = turned _ _ _ _ _ _ _ _ _ _ _ before s.0.0.1.0 (s.0.0.1.1 ∙ c.loop-j.invariant.2.0) s.0.1.1.0 (s.0.1.1.1 ∙ ap (λ n. min n (length left)) c.loop-j.invariant.2.1) c.play_frames.ensures in
+    let here = found _ _ _ _ _ _ _ _ before.right t (ap (differing c.in-Some.saved.now) (sym c.bytes_of.ensures) ∙ sym c.in-Some-first_difference.ensures) in
+    omega arith
+
+pub returns-in-Some-first_difference : goal.returns-in-Some-first_difference
+returns-in-Some-first_difference c =
+    let s = c.in-Some.ensures.steps in
+    let before = c.loop-j.invariant.2.2 in
+    let left = chunks_rest (zip_second (enumerate_source c.loop-j.j-iterator)) in
+    let t = turned _ _ _ _ _ _ _ _ _ _ _ before s.0.0.1.0 (s.0.0.1.1 ∙ c.loop-j.invariant.2.0) s.0.1.1.0 (s.0.1.1.1 ∙ ap (λ n. min n (length left)) c.loop-j.invariant.2.1) c.play_frames.ensures in
+    let here = found _ _ _ _ _ _ _ _ before.right t (ap (differing c.in-Some.saved.now) (sym c.bytes_of.ensures) ∙ sym c.in-Some-first_difference.ensures) in
+    ap (λ j. Some (64 * j + c.in-Some-first_difference.at)) s.1 ∙ sym here.0
+
+pub loop-j-preserved : goal.loop-j-preserved
+loop-j-preserved c =
+    let s = c.in-Some.ensures.steps in
+    let before = c.loop-j.invariant.2.2 in
+    let left = chunks_rest (zip_second (enumerate_source c.loop-j.j-iterator)) in
+    let t = turned _ _ _ _ _ _ _ _ _ _ _ before s.0.0.1.0 (s.0.0.1.1 ∙ c.loop-j.invariant.2.0) s.0.1.1.0 (s.0.1.1.1 ∙ ap (λ n. min n (length left)) c.loop-j.invariant.2.1) c.play_frames.ensures in
+    let more = compared_more _ _ _ _ _ _ _ before.right t (ap (differing c.in-Some.saved.now) (sym c.bytes_of.ensures) ∙ sym c.in_default.ensures) in
+    let many : chunks_exact_size (zip_first (enumerate_source c.next.new.self)) ≡ 600 = s.0.0.0 ∙ c.loop-j.invariant.2.0 in
+    let big : chunks_size (zip_second (enumerate_source c.next.new.self)) ≡ 64 = s.0.1.0 ∙ c.loop-j.invariant.2.1 in
+    let frames = ap length more.fs_are ∙ length-drop (600 * (enumerate_count c.loop-j.j-iterator + 1)) c.args.self.now.frames.now in (
+      ((omega arith, omega arith), tt, inl (simp (many, s.2) (omega arith))),
+      tt,
+      (many, big, simp s.2 more),
+    )
+
+pub returns : goal.returns
+returns c =
+    sym (all_compared _ _ _ _ _ _ c.loop-j.invariant.2.2 (elim c.in-None.ensures.steps.0 [ inl h ↦ inl (omega (arith, h.1.1.0, c.loop-j.invariant.2.0)) | inr h ↦ inr h.1.1.0 ]))
