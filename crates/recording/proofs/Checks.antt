@@ -1,9 +1,9 @@
 -- What the checks of a recording come to, both ways. Assumes nothing.
-use Rattle.std.proofs.Common.{◌≡◌, ℕ, ◌+◌, ◌*◌, ◌/◌, ◌≤◌, List, length, Ok, None, refl, sym, ap, ◌∙◌, arith, length-drop, length-take}
+use Rattle.std.proofs.Common.{◌≡◌, ℕ, ◌+◌, ◌*◌, ◌/◌, ◌≤◌, List, length, Ok, None, ap, ◌∙◌, arith, length-drop, length-take}
 use Rattle.std.proofs.lemmas.Bool.Decides.{nat_tests}
 use Rattle.recording.specs.Matches.{marks}
 use Rattle.recording.specs.Reading.{differing, mark_bytes, window_in, count_in, frames_in, states_in, due_in, head_checked, states_told, states_checked}
-use Rattle.recording.proofs.Differences.{differing_none, differs_nowhere, all_same}
+use Rattle.recording.proofs.Differences.{differs_nowhere, all_same}
 use Rattle.recording.proofs.Frames.{length_marks}
 
 -- ---- the header and the frames

@@ -1,17 +1,19 @@
 -- Frames in bytes, and the states after every 600th. Assumes nothing.
-use Rattle.std.proofs.Common.{◌≡◌, ℕ, zero, suc, ◌+◌, ◌*◌, ◌<◌, ◌≤◌, min, List, [], ◌∷◌, ◌++◌, map, length, get_or, take, drop, sym, refl, ap, ◌∙◌, add-one, arith, length-append, length-drop}
-use Rattle.std.proofs.lemmas.List.{length-map, map-append, take-append-drop, take-append-le, take-take, drop-drop, drop-append-le, drop-take, take_more, length-take-le}
-use Rattle.byte_numbers.specs.Little.{part, overwritten}
+use Rattle.std.proofs.Common.{◌≡◌, ℕ, zero, suc, ◌+◌, ◌*◌, ◌<◌, min, List, [], ◌∷◌, ◌++◌, map, length, get_or, take, drop, sym, refl, ap, ◌∙◌, add-one, arith, length-append}
+use Rattle.std.proofs.lemmas.List.{length-map, map-append, take-append-drop, take-take, drop-take, take_more, length-take-le}
 use Rattle.court.specs.declared.state.State.{State}
 use Rattle.court.specs.Frame.{start}
 use Rattle.court_game.specs.Games.{court_game}
 use Rattle.court_game.specs.Snapshots.{state_bytes}
 use Rattle.game.specs.Plain.{plays, seat_0, seat_1}
 use Rattle.game.proofs.Plays.{plays_append}
+use Rattle.game.specs.declared.seat.Seat.{Seat}
+use Rattle.game.specs.declared.seat.Seat.TheVariants.{Left, Right}
+use Rattle.game.specs.Seats.{in_order}
 use Rattle.peer.specs.declared.numbers.Peer.{Peer}
 use Rattle.peer.specs.Lent.{Long, log_of}
 use Rattle.peer.proofs.Logs.{own_long, other_long}
-use Rattle.recording.specs.Matches.{frame_byte, frame_bytes, after_frames, marks}
+use Rattle.recording.specs.Matches.{frame_byte, frame_bytes, match_of, after_frames, marks}
 
 -- ---- frames
 
@@ -53,16 +55,6 @@ take_on fs k n m e =
     ∙ ap (λ zs. zs ++ drop k (take m fs)) (take-take k m fs (omega arith))
     ∙ ap (λ zs. take k fs ++ zs) (ap (λ i. drop k (take i fs)) (sym e) ∙ drop-take k n fs)
 
--- no more than there is
-pub take_most : (fs : List ℕ) (n k : ℕ) → k ≡ min (length fs) n → take k fs ≡ take n fs
-take_most [] zero zero e = refl
-take_most [] (suc n) zero e = refl
-take_most [] n (suc k) e = let no : ⊥ = omega arith in absurd no
-take_most (f ∷ fs) zero zero e = refl
-take_most (f ∷ fs) zero (suc k) e = let no : ⊥ = omega arith in absurd no
-take_most (f ∷ fs) (suc n) zero e = let no : ⊥ = omega arith in absurd no
-take_most (f ∷ fs) (suc n) (suc k) e = ap (λ zs. f ∷ zs) (take_most fs n k (omega arith))
-
 pub after_on : (fs : List ℕ) (k n m : ℕ) → k + n ≡ m → after_frames (take m fs) ≡ plays court_game (after_frames (take k fs)) (map seat_0 (take n (drop k fs))) (map seat_1 (take n (drop k fs)))
 after_on fs k n m e = ap after_frames (take_on fs k n m e) ∙ after_more (take k fs) (take n (drop k fs))
 
@@ -98,62 +90,22 @@ frames_min (x ∷ xs) [] (suc n) e = let no : ⊥ = omega arith in absurd no
 frames_min (x ∷ xs) (y ∷ ys) zero e = let no : ⊥ = omega arith in absurd no
 frames_min (x ∷ xs) (y ∷ ys) (suc n) e = ap (λ zs. frame_byte x y ∷ zs) (frames_min xs ys n (omega arith))
 
--- ---- what lies before a write
-
--- a part of the frames, of bytes whose states behind the frames were written
-pub part_before : (xs bs : List ℕ) (n i k : ℕ) → 8 + n ≤ length xs → i + k ≤ n → take k (drop (8 + i) (overwritten xs (8 + n) bs)) ≡ take k (drop i (part xs 8 n))
-part_before xs bs n i k h l =
-    let front : List ℕ = take (8 + n) xs in
-    let rest : List ℕ = bs ++ drop (8 + n + length bs) xs in
-    let long : length front ≡ 8 + n = length-take-le (8 + n) xs h in
-    let d : drop (8 + i) front ≡ drop i (part xs 8 n) = sym (drop-drop i 8 front) ∙ ap (drop i) (drop-take 8 n xs) in
-    let room : k ≤ length (drop (8 + i) front) = simp length-drop (omega arith) in
-    ap (take k) (drop-append-le (8 + i) front rest (omega arith))
-    ∙ take-append-le k (drop (8 + i) front) rest room
-    ∙ ap (take k) d
-
-pub length_over : (xs bs : List ℕ) (at : ℕ) → at + length bs ≤ length xs → length (overwritten xs at bs) ≡ length xs
-length_over xs bs at h =
-    let rest : List ℕ = drop (at + length bs) xs in
-    let front = length-take-le at xs (omega arith) in
-    omega (arith, length-append (take at xs) (bs ++ rest), length-append bs rest, length-drop (at + length bs) xs)
-
--- the bytes stay as long as they were while states are written behind the frames
-pub marked_long : (xs ys : List ℕ) (n j : ℕ) → ys ≡ overwritten xs (8 + n) (marks (part xs 8 n) j) → 8 + n + 64 * j ≤ length xs → length ys ≡ length xs
-marked_long xs ys n j e h =
-    let l = length_marks (part xs 8 n) j in
-    ap length e ∙ length_over xs (marks (part xs 8 n) j) (8 + n) (omega arith)
-
--- nothing written
-pub put_none : (xs : List ℕ) (at : ℕ) → xs ≡ overwritten xs at []
-put_none xs at =
-    let z : at + 0 ≡ at = omega arith in
-    sym (ap (λ i. take at xs ++ drop i xs) z ∙ take-append-drop at xs)
-
 -- ---- a peer's frames
 
--- the parts of the lent inputs that are confirmed are those of the log
-pub confirmed_frames : (p : Peer) (inputs : List ℕ) (n : ℕ) → Long inputs → n ≡ min p.own p.other → frame_bytes (take n inputs) (take n (drop 1000000 inputs)) ≡ frame_bytes (log_of p inputs).own (log_of p inputs).other
-unfolding log_of
-confirmed_frames p inputs n l e =
-    let own = own_long p inputs l in
-    let other = other_long p inputs l in
-    let xs : List ℕ = take p.own inputs in
-    let ys : List ℕ = take p.other (drop 1000000 inputs) in
-    sym
-    (sym (frames_min xs ys n (omega arith))
-    ∙ ap (λ zs. frame_bytes zs (take n ys)) (take-take n p.own inputs (omega arith))
-    ∙ ap (frame_bytes (take n inputs)) (take-take n p.other (drop 1000000 inputs) (omega arith)))
+-- frames as far as both seats have inputs, in the seats' order
+ordered_min : (seat : Seat) (xs ys : List ℕ) (n : ℕ) → n ≡ min (length xs) (length ys) → (let cut = in_order seat (take n xs) (take n ys) in let whole = in_order seat xs ys in frame_bytes cut.0 cut.1 ≡ frame_bytes whole.0 whole.1)
+ordered_min Left xs ys n e = frames_min xs ys n e
+ordered_min Right xs ys n e = frames_min ys xs n (omega arith)
 
--- seat 1 has them the other way round
-pub confirmed_across : (p : Peer) (inputs : List ℕ) (n : ℕ) → Long inputs → n ≡ min p.own p.other → frame_bytes (take n (drop 1000000 inputs)) (take n inputs) ≡ frame_bytes (log_of p inputs).other (log_of p inputs).own
+-- the parts of the lent inputs that are confirmed are those of the log
+pub confirmed_frames : (p : Peer) (inputs : List ℕ) (r : List ℕ × List ℕ) (n : ℕ) → Long inputs → n ≡ min p.own p.other → r ≡ in_order p.seat (take n (take 1000000 inputs)) (take n (drop 1000000 inputs)) → frame_bytes r.0 r.1 ≡ (match_of p.seat p.window (log_of p inputs)).frames
 unfolding log_of
-confirmed_across p inputs n l e =
-    let own = own_long p inputs l in
-    let other = other_long p inputs l in
+confirmed_frames p inputs r n l e f =
+    let a = own_long p inputs l in
+    let b = other_long p inputs l in
+    let few = p.few in
     let xs : List ℕ = take p.own inputs in
     let ys : List ℕ = take p.other (drop 1000000 inputs) in
-    sym
-    (sym (frames_min ys xs n (omega arith))
-    ∙ ap (λ zs. frame_bytes zs (take n xs)) (take-take n p.other (drop 1000000 inputs) (omega arith))
-    ∙ ap (frame_bytes (take n (drop 1000000 inputs))) (take-take n p.own inputs (omega arith)))
+    let own : take n (take 1000000 inputs) ≡ take n xs = take-take n 1000000 inputs (omega arith) ∙ sym (take-take n p.own inputs (omega arith)) in
+    let other : take n (drop 1000000 inputs) ≡ take n ys = sym (take-take n p.other (drop 1000000 inputs) (omega arith)) in
+    ap (λ (x : List ℕ × List ℕ). frame_bytes x.0 x.1) (f ∙ ap (λ zs. in_order p.seat zs (take n (drop 1000000 inputs))) own ∙ ap (in_order p.seat (take n xs)) other) ∙ ordered_min p.seat xs ys n (omega arith)

@@ -1,5 +1,6 @@
 -- Saved states against those that the frames give. Assumes nothing.
 use Rattle.std.proofs.Common.{◌≡◌, ℕ, zero, suc, ◌+◌, ◌-◌, ◌*◌, ◌/◌, ◌<◌, ◌≤◌, ◌⊎◌, min, List, [], ◌++◌, map, length, get_or, take, drop, Some, None, sym, refl, ap, ◌∙◌, inl, inr, arith, length-append, length-drop, length-take}
+use borrow.Rule.Slice.PartMut.{put_mid}
 use Rattle.std.proofs.lemmas.List.{append-nil, append_assoc, take_at, take_min, drop_at, drop_min, drop-drop, get_or-take, get_or-drop}
 use Rattle.std.proofs.lemmas.Bool.{cases_lt}
 use Rattle.byte_numbers.specs.Little.{part}
@@ -92,14 +93,12 @@ differs_on xs ys n k a same e =
       omega arith,
     )
 
--- ---- the loop over the saved states
+-- ---- the loops over the frames, 600 at a time
 
--- so many were compared and are right; what is left of the frames and of the states
-pub record Compared (fs states : List ℕ) (state : State) (j : ℕ) (fs_left states_left : List ℕ) : Type 0 where
-  pub fs_are : fs_left ≡ drop (600 * j) fs
-  pub states_are : states_left ≡ drop (64 * j) states
+-- the state after so many times 600 frames, and the frames that are left
+pub record Played (fs : List ℕ) (state : State) (j : ℕ) (left : List ℕ) : Type 0 where
+  pub left_is : left ≡ drop (600 * j) fs
   pub state_is : state ≡ after_frames (take (600 * j) fs)
-  pub right : Alike states (marks fs (length fs / 600)) (64 * j)
   pub within : 600 * j ≤ length fs
 
 -- the front of what is left, and what is left then
@@ -108,32 +107,45 @@ cut xs front rest n k e l =
     let ys : List ℕ = drop n xs in
     (sym (take_at front rest _ l) ∙ ap (take (min k (length ys))) e ∙ take_min k ys, sym (drop_at front rest _ l) ∙ ap (drop (min k (length ys))) e ∙ drop_min k ys ∙ drop-drop k n xs)
 
--- one more: its frames, its bytes, and those that are due
+pub played_more : (fs : List ℕ) (s t : State) (j : ℕ) (left next rest : List ℕ) → Played fs s j left → left ≡ next ++ rest → length next ≡ 600 → t ≡ plays court_game s (map seat_0 next) (map seat_1 next) → Played fs t (j + 1) rest
+played_more fs s t j left next rest p e m is =
+    let a = ap length e ∙ length-append next rest in
+    let b = ap length p.left_is in
+    let d = length-drop (600 * j) fs in
+    let g = cut fs next rest (600 * j) 600 (sym e ∙ p.left_is) (omega arith) in
+    let n : 600 * j + 600 ≡ 600 * (j + 1) = omega arith in
+    record {
+      left_is = g.1 ∙ ap (λ i. drop i fs) n;
+      state_is = after_part fs next j 600 s t refl g.0 p.state_is is;
+      within = omega arith;
+    }
+
+-- ---- the loop over the saved states
+
+-- so many were compared and are right; what is left of them
+pub record Compared (fs states : List ℕ) (state : State) (j : ℕ) (fs_left states_left : List ℕ) : Type 0 where
+  pub played : Played fs state j fs_left
+  pub left_is : states_left ≡ drop (64 * j) states
+  pub right : Alike states (marks fs (length fs / 600)) (64 * j)
+
+-- one more: its bytes, and those that are due
 pub record Turned (fs states : List ℕ) (state : State) (j : ℕ) (saved fs_next states_next : List ℕ) : Type 0 where
-  pub early : 600 * (j + 1) ≤ length fs
+  pub played : Played fs state (j + 1) fs_next
   pub saved_is : saved ≡ part states (64 * j) 64
-  pub state_is : state ≡ after_frames (take (600 * (j + 1)) fs)
   pub due_is : state_bytes state ≡ part (marks fs (length fs / 600)) (64 * j) 64
-  pub fs_are : fs_next ≡ drop (600 * (j + 1)) fs
-  pub states_are : states_next ≡ drop (64 * (j + 1)) states
+  pub left_is : states_next ≡ drop (64 * (j + 1)) states
 
 pub turned : (fs states : List ℕ) (s t : State) (j : ℕ) (fs_left states_left next saved fs_next states_next : List ℕ) → Compared fs states s j fs_left states_left → fs_left ≡ next ++ fs_next → length next ≡ 600 → states_left ≡ saved ++ states_next → length saved ≡ min 64 (length states_left) → t ≡ plays court_game s (map seat_0 next) (map seat_1 next) → Turned fs states t j saved fs_next states_next
 turned fs states s t j fs_left states_left next saved fs_next states_next c e m f n is =
-    let a = ap length e ∙ length-append next fs_next in
-    let b = ap length c.fs_are in
-    let d = length-drop (600 * j) fs in
-    let g = cut fs next fs_next (600 * j) 600 (sym e ∙ c.fs_are) (omega arith) in
-    let h = cut states saved states_next (64 * j) 64 (sym f ∙ c.states_are) (n ∙ ap (λ zs. min 64 (length zs)) c.states_are) in
-    let p : 600 * j + 600 ≡ 600 * (j + 1) = omega arith in
+    let more = played_more fs s t j fs_left next fs_next c.played e m is in
+    let early = more.within in
+    let h = cut states saved states_next (64 * j) 64 (sym f ∙ c.left_is) (n ∙ ap (λ zs. min 64 (length zs)) c.left_is) in
     let q : 64 * j + 64 ≡ 64 * (j + 1) = omega arith in
-    let now : t ≡ after_frames (take (600 * (j + 1)) fs) = after_part fs next j 600 s t refl g.0 c.state_is is in
     record {
-      early = omega arith;
+      played = more;
       saved_is = h.0;
-      state_is = now;
-      due_is = ap state_bytes now ∙ sym (mark_part fs j (length fs / 600) (omega arith));
-      fs_are = g.1 ∙ ap (λ i. drop i fs) p;
-      states_are = h.1 ∙ ap (λ i. drop i states) q;
+      due_is = ap state_bytes more.state_is ∙ sym (mark_part fs j (length fs / 600) (omega arith));
+      left_is = h.1 ∙ ap (λ i. drop i states) q;
     }
 
 pub compared_more : (fs states : List ℕ) (t : State) (j : ℕ) (saved fs_next states_next : List ℕ) → Alike states (marks fs (length fs / 600)) (64 * j) → Turned fs states t j saved fs_next states_next → differing saved (state_bytes t) ≡ None → Compared fs states t (j + 1) fs_next states_next
@@ -141,7 +153,7 @@ compared_more fs states t j saved fs_next states_next same c e =
     let due : List ℕ = marks fs (length fs / 600) in
     let here = ap (λ zs. differing zs (part due (64 * j) 64)) (sym c.saved_is) ∙ ap (differing saved) (sym c.due_is) ∙ e in
     let more = alike_on states due (64 * j) 64 same here in
-    record { fs_are = c.fs_are; states_are = c.states_are; state_is = c.state_is; right = λ i l. more i (omega arith); within = c.early }
+    record { played = c.played; left_is = c.left_is; right = λ i l. more i (omega arith) }
 
 pub found : (fs states : List ℕ) (t : State) (j k : ℕ) (saved fs_next states_next : List ℕ) → Alike states (marks fs (length fs / 600)) (64 * j) → Turned fs states t j saved fs_next states_next → differing saved (state_bytes t) ≡ Some k → (differing states (marks fs (length fs / 600)) ≡ Some (64 * j + k)) × (64 * j + k < length states)
 found fs states t j k saved fs_next states_next same c e =
@@ -151,8 +163,23 @@ found fs states t j k saved fs_next states_next same c e =
 -- where there are no more frames for a state, or no more bytes
 pub all_compared : (fs states : List ℕ) (s : State) (j : ℕ) (fs_left states_left : List ℕ) → Compared fs states s j fs_left states_left → (length fs_left < 600) ⊎ (length states_left ≡ 0) → differing states (marks fs (length fs / 600)) ≡ None
 all_compared fs states s j fs_left states_left c end =
-    let within = c.within in
-    let a = ap length c.fs_are ∙ length-drop (600 * j) fs in
-    let b = ap length c.states_are ∙ length-drop (64 * j) states in
+    let p = c.played in
+    let a = ap length p.left_is ∙ length-drop (600 * j) fs in
+    let b = ap length c.left_is ∙ length-drop (64 * j) states in
     let m = length_marks fs (length fs / 600) in
     differs_nowhere _ _ (λ i l x y. c.right i (omega arith) x y)
+
+-- ---- the loop that writes them
+
+-- one more state behind those that are written
+pub put_more : (xs fs ys bs : List ℕ) (j k : ℕ) → ys ≡ marks fs j ++ drop (64 * j) xs → bs ≡ mark_bytes_at fs j → k ≡ 64 → put_mid (64 * j) k ys bs ≡ marks fs (j + 1) ++ drop (64 * (j + 1)) xs
+put_more xs fs ys bs j k e f g =
+    let front : List ℕ = marks fs j in
+    let n : 64 * j + k ≡ 64 * (j + 1) = omega arith in
+    let rest : drop (64 * j) ys ≡ drop (64 * j) xs = ap (drop (64 * j)) e ∙ drop_at front _ (64 * j) (length_marks fs j) in
+    ap (λ zs. zs ++ (bs ++ drop k (drop (64 * j) ys))) (ap (take (64 * j)) e ∙ take_at front _ (64 * j) (length_marks fs j))
+    ∙ ap (λ zs. front ++ (bs ++ drop k zs)) rest
+    ∙ ap (λ zs. front ++ (bs ++ zs)) (drop-drop k (64 * j) xs ∙ ap (λ i. drop i xs) n)
+    ∙ ap (λ zs. front ++ (zs ++ drop (64 * (j + 1)) xs)) f
+    ∙ sym (append_assoc front (mark_bytes_at fs j) _)
+    ∙ ap (λ zs. zs ++ drop (64 * (j + 1)) xs) (sym (marks_more fs j))

@@ -1,38 +1,31 @@
 -- A recording as it is written, part by part. Assumes nothing.
-use Rattle.std.proofs.Common.{◌≡◌, ℕ, ◌+◌, ◌/◌, min, List, ◌∷◌, ◌++◌, length, drop, sym, refl, ap, ◌∙◌, arith, length-append}
-use borrow.Rule.Slice.PartMut.{put_mid}
-use Rattle.std.proofs.lemmas.List.{take_at}
-use Rattle.byte_numbers.specs.Little.{little, part, overwritten}
-use Rattle.byte_numbers.proofs.Places.{put_is, put_both}
+use Rattle.std.proofs.Common.{Bor, ◌≡◌, ℕ, ◌+◌, ◌*◌, ◌/◌, min, List, ◌∷◌, ◌++◌, length, drop, sym, ap, ◌∙◌, arith}
+use Rattle.std.proofs.lemmas.List.{append_assoc, drop-drop}
+use Rattle.byte_numbers.specs.Little.{little}
 use Rattle.game.specs.declared.seat.Seat.{Seat}
 use Rattle.game.specs.declared.seat.Seat.TheVariants.{Left, Right}
+use Rattle.game.specs.Seats.{in_order}
 use Rattle.peer.specs.declared.numbers.Peer.{Peer}
 use Rattle.peer.specs.Lent.{Long, log_of}
 use Rattle.peer.specs.Peers.{Log, confirmed}
 use Rattle.peer.proofs.Logs.{own_long, other_long}
-use Rattle.recording.specs.Matches.{marks, match_of, match_bytes, match_length}
-use Rattle.recording.proofs.Frames.{length_frames, length_marks}
+use Rattle.recording.specs.Matches.{Match, marks, match_of, match_bytes, match_length}
+use Rattle.recording.proofs.Frames.{length_frames}
 
-abbrev pub head_bytes : ℕ → ℕ → List ℕ
-head_bytes window count = 82 ∷ (69 ∷ (67 ∷ (window ∷ little 4 count)))
-
--- the header, the frames and the states, one after the other
-pub written_whole : (xs a ys b c fs : List ℕ) (window n k : ℕ) → length fs ≡ n → a ≡ overwritten xs 0 (head_bytes window n) → ys ≡ fs → k ≡ n → b ≡ put_mid 8 k a ys → c ≡ overwritten b (8 + n) (marks (part b 8 n) (n / 600)) → c ≡ match_bytes (record { window = window; frames = fs }) ++ drop (match_length n) xs
-written_whole xs a ys b c fs window n k long e f g h i =
-    let head : List ℕ = head_bytes window n in
-    let front : List ℕ = head ++ fs in
-    let ms : List ℕ = marks fs (n / 600) in
-    let lf : length front ≡ 8 + n = omega (arith, length-append head fs) in
-    let lm : length ms ≡ _ = length_marks fs (n / 600) in
-    let written : b ≡ overwritten xs 0 front = h ∙ put_is 8 k a ys fs f (omega arith) ∙ ap (λ zs. overwritten zs 8 fs) e ∙ put_both xs head fs 0 8 refl (omega arith) in
-    let frames : part b 8 n ≡ fs = ap (λ zs. part zs 8 n) written ∙ take_at fs (drop (0 + length front) xs) n long in
-    let end : 0 + length (front ++ ms) ≡ match_length n = omega (arith, length-append front ms) in
-    i
-    ∙ ap (λ zs. overwritten zs (8 + n) (marks (part b 8 n) (n / 600))) written
-    ∙ ap (λ zs. overwritten (overwritten xs 0 front) (8 + n) (marks zs (n / 600))) frames
-    ∙ put_both xs front ms 0 (8 + n) (omega arith) (omega arith)
-    ∙ ap (λ m. (front ++ ms) ++ drop m xs) end
-    ∙ ap (λ m. (head_bytes window m ++ (fs ++ marks fs (m / 600))) ++ drop (match_length n) xs) (sym long)
+-- the header, the frames and the states, one after the other, and what lay behind them
+pub written_whole : (xs head frames states : List ℕ) (m : Match) (n : ℕ) → length m.frames ≡ n → head ≡ 82 ∷ (69 ∷ (67 ∷ (m.window ∷ little 4 n))) → frames ≡ m.frames → (let k : ℕ = length frames / 600 in states ≡ marks frames k ++ drop (64 * k) (drop n (drop 8 xs))) → head ++ (frames ++ states) ≡ match_bytes m ++ drop (match_length n) xs
+written_whole xs head frames states m n long e f g =
+    let k : ℕ = length frames / 600 in
+    let hd : List ℕ = 82 ∷ (69 ∷ (67 ∷ (m.window ∷ little 4 (length m.frames)))) in
+    let tail : List ℕ = drop (match_length n) xs in
+    let same : length frames ≡ n = ap length f ∙ long in
+    let end : 8 + (n + 64 * k) ≡ match_length n = ap (λ i. 8 + (n + 64 * (i / 600))) same ∙ (omega arith) in
+    let rest : drop (64 * k) (drop n (drop 8 xs)) ≡ tail =
+    drop-drop (64 * k) n (drop 8 xs) ∙ drop-drop (n + 64 * k) 8 xs ∙ ap (λ i. drop i xs) end in
+    ap (λ zs. zs ++ (frames ++ states)) (e ∙ ap (λ i. 82 ∷ (69 ∷ (67 ∷ (m.window ∷ little 4 i)))) (sym long))
+    ∙ ap (λ zs. hd ++ (frames ++ zs)) (g ∙ ap (λ r. marks frames k ++ r) rest)
+    ∙ ap (λ (zs : List ℕ). hd ++ (zs ++ (marks zs (length zs / 600) ++ tail))) f
+    ∙ simp append_assoc
 
 -- how many frames a match has
 frames_by : (seat : Seat) (window : ℕ) (log : Log) → length (match_of seat window log).frames ≡ confirmed log
@@ -46,6 +39,13 @@ confirmed_is p inputs l =
 pub frames_long : (p : Peer) (inputs : List ℕ) → Long inputs → length (match_of p.seat p.window (log_of p inputs)).frames ≡ min p.own p.other
 frames_long p inputs l = frames_by p.seat p.window (log_of p inputs) ∙ confirmed_is p inputs l
 
-pub window_of : (seat : Seat) (window : ℕ) (log : Log) → match_of seat window log ≡ record { window = window; frames = (match_of seat window log).frames }
-window_of Left window log = refl
-window_of Right window log = refl
+-- ---- slices in the seats' order
+
+-- what is lent, and how long it is
+pub ordered_now : (seat : Seat) (own other : Bor (List ℕ)) (r : Bor (List ℕ) × Bor (List ℕ)) → r ≡ in_order seat own other → (r.0.now, r.1.now) ≡ in_order seat own.now other.now
+ordered_now Left own other r e = ap (λ (x : Bor (List ℕ) × Bor (List ℕ)). (x.0.now, x.1.now)) e
+ordered_now Right own other r e = ap (λ (x : Bor (List ℕ) × Bor (List ℕ)). (x.0.now, x.1.now)) e
+
+pub ordered_long : (seat : Seat) (own other : List ℕ) (r : List ℕ × List ℕ) (n : ℕ) → r ≡ in_order seat own other → length own ≡ n → length other ≡ n → (length r.0 ≡ n) × (length r.1 ≡ n)
+ordered_long Left own other r n e f g = (ap (λ (x : List ℕ × List ℕ). length x.0) e ∙ f, ap (λ (x : List ℕ × List ℕ). length x.1) e ∙ g)
+ordered_long Right own other r n e f g = (ap (λ (x : List ℕ × List ℕ). length x.0) e ∙ g, ap (λ (x : List ℕ × List ℕ). length x.1) e ∙ f)

@@ -7,7 +7,7 @@ use Rattle.court_game.specs.Games.{court_game}
 use Rattle.court_game.specs.Snapshots.{state_bytes}
 use Rattle.game.specs.Plain.{plays, seat_0, seat_1}
 use Rattle.game.specs.declared.seat.Seat.{Seat}
-use Rattle.game.specs.declared.seat.Seat.TheVariants.{Left, Right}
+use Rattle.game.specs.Seats.{in_order}
 use Rattle.peer.specs.Peers.{Log}
 
 -- ---- a match
@@ -29,8 +29,8 @@ frame_bytes (a ∷ xs) (b ∷ bs) = frame_byte a b ∷ frame_bytes xs bs
 
 -- what a peer is sure of: the frames of which it has both inputs
 abbrev pub match_of : Seat → ℕ → Log → Match
-match_of Left window log = record { window = window; frames = frame_bytes log.own log.other }
-match_of Right window log = record { window = window; frames = frame_bytes log.other log.own }
+match_of seat window log =
+    let inputs = in_order seat log.own log.other in record { window = window; frames = frame_bytes inputs.0 inputs.1 }
 
 -- the state after frames: the plain game
 abbrev pub after_frames : List ℕ → State

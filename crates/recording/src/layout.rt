@@ -28,5 +28,5 @@ pub(crate) fn length_by(frames: usize) -> usize
 pub fn length_of(p: &Peer) -> usize
     ensures { result ≡ match_length (min p.now.own p.now.other) }
 {
-    length_by(p.own.min(p.other))
+    length_by(p.confirmed())
 }

@@ -13,6 +13,7 @@ use court_game::entry::Held;
 use court_game::snapshot::save_state;
 use game::saved::STATE_BYTES;
 use peer::log::HALF;
+use peer::numbers::check_window;
 use std::cmp::Ordering;
 
 // Where two slices first differ, as far as both go.
@@ -40,8 +41,7 @@ fn split_parts(bytes: &[u8]) -> Result<Recording<'_>, Fault>
     }
     let cut = Fault::CutShort(bytes.len());
     let window = *bytes.get(WINDOW_AT).ok_or(cut)?;
-    let near = 1 <= window && window <= 60;
-    if !near {
+    if check_window(usize::from(window)).is_err() {
         return Err(Fault::Window);
     }
     if bytes.len() < FRAMES_AT {

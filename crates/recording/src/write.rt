@@ -1,9 +1,9 @@
 // A recording as bytes, in lent memory.
-ghost use Rattle.std.specs.Prelude.{◌≡◌, ◌+◌, ◌/◌, ◌≤◌, min, ◌∷◌, length};
-ghost use Rattle.byte_numbers.specs.Little.{little, overwritten, part};
+ghost use Rattle.std.specs.Prelude.{◌≡◌, ◌*◌, ◌/◌, ◌≤◌, min, ◌∷◌, ◌++◌, length, drop};
+ghost use Rattle.byte_numbers.specs.Little.{little};
 ghost use Rattle.peer.specs.Lent.{Long, log_of};
 ghost use Rattle.peer.specs.Peers.{confirmed};
-ghost use Rattle.recording.specs.Matches.{frame_bytes, marks, match_length, match_of};
+ghost use Rattle.recording.specs.Matches.{frame_bytes, marks, match_of};
 ghost use Rattle.recording.specs.Writing.{writing, written_over};
 
 use crate::layout::{COUNT_AT, EVERY, FRAMES_AT, MARK, WINDOW_AT, length_by};
@@ -12,14 +12,13 @@ use court::Court;
 use court_game::entry::Held;
 use court_game::snapshot::save_state;
 use game::saved::STATE_BYTES;
-use game::seat::Seat;
 use peer::Peer;
 use peer::log::HALF;
 
 // The fields before the frames.
 fn put_head(out: &mut [u8], window: u8, count: u32)
-    requires { 8 ≤ length out.old }
-    ensures { out.new ≡ overwritten out.old 0 (82 ∷ (69 ∷ (67 ∷ (window ∷ little 4 count)))) }
+    requires { length out.old ≡ 8 }
+    ensures { out.new ≡ 82 ∷ (69 ∷ (67 ∷ (window ∷ little 4 count))) }
 {
     out[..WINDOW_AT].copy_from_slice(&MARK);
     out[WINDOW_AT] = window;
@@ -36,17 +35,17 @@ fn put_frames(left: &[u8], right: &[u8], frames: &mut [u8])
     }
 }
 
-// The state after every 600th frame, behind the frames.
-fn put_states(out: &mut [u8], frames: usize)
-    requires { (frames ≤ 1000000) × (match_length frames ≤ length out.old) }
-    ensures { out.new ≡ overwritten out.old (8 + frames) (marks (part out.old 8 frames) (frames / 600)) }
+// The state after every 600th of the frames.
+fn put_states(frames: &[u8], states: &mut [u8])
+    requires { 64 * (length frames.now / 600) ≤ length states.old }
+    ensures { states.new ≡ marks frames.now (length frames.now / 600) ++ drop (64 * (length frames.now / 600)) states.old }
 {
     let mut state = Court::new();
-    for j in 0..frames / EVERY {
-        let next = FRAMES_AT + EVERY * j;
-        state = game::plain::play_frames(Held(state), &out[next..next + EVERY]).0;
-        let at = FRAMES_AT + frames + STATE_BYTES * j;
-        save_state(state, &mut out[at..at + STATE_BYTES]);
+    // By places: of a slice lent as `chunks_exact_mut` a proof knows afterwards only the length.
+    for (j, part) in frames.chunks_exact(EVERY).enumerate() {
+        state = game::plain::play_frames(Held(state), part).0;
+        let at = STATE_BYTES * j;
+        save_state(state, &mut states[at..at + STATE_BYTES]);
     }
 }
 
@@ -64,12 +63,10 @@ fn put_confirmed(p: &Peer, inputs: &[u8], frames: &mut [u8])
     requires { (Long inputs.now) × (length frames.old ≡ min p.now.own p.now.other) }
     ensures { frames.new ≡ (match_of p.now.seat p.now.window (log_of p.now inputs.now)).frames }
 {
-    let own = &inputs[0..frames.len()];
-    let other = &inputs[HALF..HALF + frames.len()];
-    match p.seat {
-        Seat::Left => put_frames(own, other, frames),
-        Seat::Right => put_frames(other, own, frames),
-    }
+    let (own, other) = inputs.split_at(HALF);
+    let count = frames.len();
+    let (left, right) = p.seat.in_order(&own[..count], &other[..count]);
+    put_frames(left, right, frames);
 }
 
 // Writes the recording of what a peer is sure of, and hands back its length. What lies behind it stays, and a refusal changes
@@ -78,18 +75,18 @@ pub fn write(p: &Peer, inputs: &[u8], out: &mut [u8]) -> Result<usize, Unwritten
     ensures answer { result ≡ writing (length inputs.now) (confirmed (log_of p.now inputs.now)) (length out.old) }
     ensures bytes { out.new ≡ written_over (length inputs.now) (match_of p.now.seat p.now.window (log_of p.now inputs.now)) out.old }
 {
-    let short = inputs.len() < 2 * HALF;
-    if short {
+    if inputs.len() < 2 * HALF {
         return Err(Unwritten::Inputs);
     }
-    let n = p.own.min(p.other);
-    let end = length_by(n);
-    let no_room = out.len() < end;
-    if no_room {
+    let count = p.confirmed();
+    let end = length_by(count);
+    if out.len() < end {
         return Err(Unwritten::NoRoom);
     }
-    put_head(out, p.window as u8, n as u32);
-    put_confirmed(p, inputs, &mut out[FRAMES_AT..FRAMES_AT + n]);
-    put_states(out, n);
+    let (head, rest) = out.split_at_mut(FRAMES_AT);
+    let (frames, states) = rest.split_at_mut(count);
+    put_head(head, p.window as u8, count as u32);
+    put_confirmed(p, inputs, frames);
+    put_states(frames, states);
     Ok(end)
 }

@@ -1,8 +1,8 @@
-use Rattle.std.proofs.Common.{◌≡◌, ◌+◌, length, take, drop, ap, ◌∙◌, arith, length-drop, length-take}
+use Rattle.std.proofs.Common.{◌≡◌, ◌+◌, length, take, drop, ap, ◌∙◌, arith, length-drop}
 use Rattle.std.proofs.lemmas.List.{take_rest, drop-drop}
 use Rattle.std.proofs.lemmas.Bool.Decides.{nat_tests}
 use Rattle.std.proofs.lemmas.Result.{err_from_is_err_and}
-use Rattle.recording.specs.Reading.{mark_bytes, count_in, head_checked}
+use Rattle.recording.specs.Reading.{count_in, head_checked}
 use Rattle.recording.proofs.read.split_parts.Goals as goal
 
 pub returns-in-Some : goal.returns-in-Some
@@ -18,9 +18,9 @@ returns-in_err-window c =
     let p = err_from_is_err_and c.from_residual.result c.from_residual.ensures.1 in
     rw (p.1, p.2) (grind (arith, nat_tests))
 
-pub returns-then-not-near : goal.returns-then-not-near
+pub returns-then-is_err : goal.returns-then-is_err
 unfolding head_checked
-returns-then-not-near c =
+returns-then-is_err c =
     let there = rw c.in_ok-window.ensures.ok_part at c.get.ensures.lookup in
     let window = there.4 (omega arith) 0 in
     grind (arith, nat_tests)

@@ -1,9 +1,14 @@
-use Rattle.std.proofs.Common.{◌≡◌, ◌+◌, ◌*◌, take}
-use Rattle.byte_numbers.specs.Little.{overwritten, part}
-use Rattle.recording.specs.Matches.{after_frames, marks}
+use Rattle.std.proofs.Common.{◌≡◌, ◌*◌, ◌++◌, drop}
+use Rattle.std.specs.Iterator.Adapters.{enumerate_source, enumerate_count}
+use Rattle.std.specs.Slice.Iter.{chunks_exact_rest, chunks_exact_size}
+use Rattle.recording.specs.Matches.{marks}
+use Rattle.recording.proofs.Marked.{Played}
 use Rattle.recording.proofs.write.put_states.Given as goal
 
 abbrev pub invariant-loop-j : goal.invariant-loop-j
 invariant-loop-j l =
-    (l.state.state ≡ after_frames (take (600 * l.j) (part l.initial.out 8 l.frames)))
-    × (l.out ≡ overwritten l.initial.out (8 + l.frames) (marks (part l.initial.out 8 l.frames) l.j))
+    let parts = enumerate_source l.j-iterator in
+    let j = enumerate_count l.j-iterator in
+    (chunks_exact_size parts ≡ 600)
+    × Played l.frames l.state.state j (chunks_exact_rest parts)
+    × (l.states ≡ marks l.frames j ++ drop (64 * j) l.initial.states)

@@ -1,4 +1,4 @@
-use Rattle.std.proofs.Common.{◌≡◌, ℕ, ◌+◌, ◌*◌, ◌<◌, min, length, Some, refl, sym, ap, ◌∙◌, arith, length-drop, inl, inr}
+use Rattle.std.proofs.Common.{◌≡◌, ◌+◌, ◌*◌, min, length, Some, sym, ap, ◌∙◌, arith, length-drop, inl, inr}
 use Rattle.std.specs.Iterator.Adapters.{enumerate_source, enumerate_count, zip_first, zip_second}
 use Rattle.std.specs.Slice.Iter.{chunks_rest, chunks_size, chunks_exact_rest, chunks_exact_size}
 use Rattle.game.specs.Plain.{plays}
@@ -21,7 +21,7 @@ loop-j-init c =
     let states = ap chunks_rest second ∙ c.chunks.ensures.rest in (
       ((omega arith, omega arith), tt, inl (let n = ap length frames in simp (many, none) (omega arith))),
       tt,
-      (many, big, simp none (record { fs_are = frames; states_are = states; state_is = c.new-state.ensures.value; right = λ i l. absurd (omega arith); within = omega arith })),
+      (many, big, simp none (record { played = record { left_is = frames; state_is = c.new-state.ensures.value; within = omega arith }; left_is = states; right = λ i l. absurd (omega arith) })),
     )
 
 pub overflow_add-result : goal.overflow_add-result
@@ -51,7 +51,7 @@ loop-j-preserved c =
     let more = compared_more _ _ _ _ _ _ _ before.right t (ap (differing c.in-Some.saved.now) (sym c.bytes_of.ensures) ∙ sym c.in_default.ensures) in
     let many : chunks_exact_size (zip_first (enumerate_source c.next.new.self)) ≡ 600 = s.0.0.0 ∙ c.loop-j.invariant.2.0 in
     let big : chunks_size (zip_second (enumerate_source c.next.new.self)) ≡ 64 = s.0.1.0 ∙ c.loop-j.invariant.2.1 in
-    let frames = ap length more.fs_are ∙ length-drop (600 * (enumerate_count c.loop-j.j-iterator + 1)) c.args.self.now.frames.now in (
+    let frames = ap length more.played.left_is ∙ length-drop (600 * (enumerate_count c.loop-j.j-iterator + 1)) c.args.self.now.frames.now in (
       ((omega arith, omega arith), tt, inl (simp (many, s.2) (omega arith))),
       tt,
       (many, big, simp s.2 more),
