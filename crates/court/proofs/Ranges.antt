@@ -1,27 +1,14 @@
 -- Numbers brought into their ranges. Assumes nothing.
-use Rattle.std.proofs.Common.{◌≡◌, ℕ, ℤ, ◌≤ℤ◌, arith}
+use Rattle.std.proofs.Common.{◌≡◌, ℕ, ℤ, arith}
 use Rattle.std.proofs.lemmas.Int.{ints}
 use Rattle.court.specs.declared.state.Ball.{Ball}
 use Rattle.court.specs.declared.state.Paddle.{Paddle}
 use Rattle.court.specs.declared.state.State.{State}
 use Rattle.court.specs.Frame.{between}
 use Rattle.court.specs.Bounds.{Within, BallIn, PaddleIn, InCourt, ball_clamped, paddle_clamped, clamped_in}
-use Rattle.court.proofs.Stays.{between_in}
 
 between_same : (lo hi a : ℤ) → Within lo hi a → between lo hi a ≡ a
 between_same lo hi a h = grind (arith, ints)
-
-pub ball_clamped_in : (b : Ball) → BallIn (ball_clamped b)
-ball_clamped_in b =
-    record {
-      x = between_in _ _ b.x (omega (arith, ints));
-      y = between_in _ _ b.y (omega (arith, ints));
-      dx = between_in _ _ b.dx (omega (arith, ints));
-      dy = between_in _ _ b.dy (omega (arith, ints));
-    }
-
-pub paddle_clamped_in : (lo hi : ℤ) (p : Paddle) → lo ≤ℤ hi → PaddleIn lo hi (paddle_clamped lo hi p)
-paddle_clamped_in lo hi p h = record { x = between_in lo hi p.x h; y = between_in _ _ p.y (omega (arith, ints)) }
 
 pub ball_from : (x x' y y' dx dx' dy dy' : ℤ) → x ≡ x' → y ≡ y' → dx ≡ dx' → dy ≡ dy' → ◌≡◌ {A = Ball} (record { x = x; y = y; dx = dx; dy = dy }) (record { x = x'; y = y'; dx = dx'; dy = dy' })
 ball_from x x' y y' dx dx' dy dy' e f g h = cc

@@ -63,7 +63,7 @@ struck_by side p b k h true e =
     })
 struck_by side p b k h false e = simp e h
 
-pub struck_in : (side : Side) (p : Paddle) (b : Ball) → OnCourt p → Flying b → Flying (struck side p b)
+struck_in : (side : Side) (p : Paddle) (b : Ball) → OnCourt p → Flying b → Flying (struck side p b)
 struck_in side p b k h = struck_by side p b k h (meets b p) refl
 
 paddle_in : (lo hi : ℤ) (p : Paddle) (input : ℕ) → lo ≤ℤ hi → PaddleIn lo hi (paddle_moved lo hi p input)
@@ -164,13 +164,13 @@ ends_by s h false false e f =
       wait_in = h.wait_in;
     })
 
-ends_in : (s : State) → InPlay s → InCourt (ends_met s)
+pub ends_in : (s : State) → InPlay s → InCourt (ends_met s)
 ends_in s h = ends_by s h (lt_z s.ball.x (pos 512)) (lt_z (pos 40448) s.ball.x) refl refl
 
 -- ---- the frame
 
 -- the ball after both paddles
-pub ball_flies : (s : State) → InCourt s → Flying (struck Right s.right (struck Left s.left (ball_moved s.ball)))
+ball_flies : (s : State) → InCourt s → Flying (struck Right s.right (struck Left s.left (ball_moved s.ball)))
 ball_flies s h =
     struck_in Right s.right (struck Left s.left (ball_moved s.ball)) (right_on s.right h.right_in)
     (struck_in Left s.left (ball_moved s.ball) (left_on s.left h.left_in) (moved_in s.ball h.ball_in))

@@ -48,23 +48,6 @@ pub record InPlay (s : State) : Type 0 where
   pub right_score : s.score.right < 9
   pub wait_in : s.wait ≤ 60
 
--- InCourt in parts that a ghost field takes, which takes no record
-abbrev pub BallKept : State → Type 0
-BallKept s =
-    Within ball_half (court_width -ℤ ball_half) s.ball.x × Within ball_half (court_height -ℤ ball_half) s.ball.y
-    × Within (neg_ℤ top_speed) top_speed s.ball.dx × Within (neg_ℤ top_speed) top_speed s.ball.dy
-
-abbrev pub LeftKept : State → Type 0
-LeftKept s =
-    Within paddle_half_x left_most s.left.x × Within paddle_half_y (court_height -ℤ paddle_half_y) s.left.y
-
-abbrev pub RightKept : State → Type 0
-RightKept s =
-    Within right_least (court_width -ℤ paddle_half_x) s.right.x × Within paddle_half_y (court_height -ℤ paddle_half_y) s.right.y
-
-abbrev pub ScoreKept : State → Type 0
-ScoreKept s = (s.score.left ≤ 9) × (s.score.right ≤ 9) × (s.wait ≤ 60)
-
 -- ---- a state with each number brought into its range
 
 abbrev pub ball_clamped : Ball → Ball

@@ -3,12 +3,16 @@ ghost use Rattle.std.specs.Prelude.{◌≡◌, pos, neg_ℤ};
 ghost use Rattle.court.specs.Bounds.{Within, Flying, BallIn, OnCourt};
 ghost use Rattle.court.specs.Frame.{sixteenth_of, inward, quickened, bent_by, meets, ball_moved, struck};
 
+use crate::span::{BALL_Y, SPEEDS};
 use crate::state::{Ball, Paddle, Side};
-use crate::{BALL_HALF, HEIGHT, PADDLE_HALF_X, PADDLE_HALF_Y};
-
-pub(crate) const TOP_SPEED: i32 = 1536;
+use crate::{BALL_HALF, PADDLE_HALF_X, PADDLE_HALF_Y, TOP_SPEED};
 
 const GAIN: i32 = 32;
+
+// How near the middles of a ball and a paddle are where they touch.
+const REACH_X: u32 = (PADDLE_HALF_X + BALL_HALF) as u32;
+
+const REACH_Y: u32 = (PADDLE_HALF_Y + BALL_HALF) as u32;
 
 pub(crate) fn into_court(from: Side, by: i32) -> i32
     requires { Within (pos 0) (pos 1536) by }
@@ -25,39 +29,29 @@ pub(crate) fn move_ball(b: Ball) -> Ball
     requires { BallIn b }
     ensures { result ≡ ball_moved b }
 {
-    let x = b.x + b.dx;
     let y = b.y + b.dy;
-    let above = y < BALL_HALF;
-    let below = y > HEIGHT - BALL_HALF;
+    let above = y < BALL_Y.least;
+    let below = y > BALL_Y.most;
+    let moved = Ball {
+        x: b.x + b.dx,
+        y,
+        ..b
+    };
     if above {
         Ball {
-            x,
-            y: BALL_HALF,
-            dx: b.dx,
+            y: BALL_Y.least,
             dy: b.dy.abs(),
+            ..moved
         }
     } else if below {
         Ball {
-            x,
-            y: HEIGHT - BALL_HALF,
-            dx: b.dx,
+            y: BALL_Y.most,
             dy: -b.dy.abs(),
+            ..moved
         }
     } else {
-        Ball {
-            x,
-            y,
-            dx: b.dx,
-            dy: b.dy,
-        }
+        moved
     }
-}
-
-fn touches(b: Ball, p: Paddle) -> bool
-    requires { (Flying b) × (OnCourt p) }
-    ensures { result ≡ meets b p }
-{
-    (b.x - p.x).abs() < PADDLE_HALF_X + BALL_HALF && (b.y - p.y).abs() < PADDLE_HALF_Y + BALL_HALF
 }
 
 fn sixteenth(d: i32) -> i32
@@ -77,22 +71,43 @@ fn quicken(dx: i32) -> i32
 
 fn bend(dy: i32, d: i32) -> i32
     requires { Within (neg_ℤ (pos 1536)) (pos 1536) dy }
-    ensures { result ≡ bent_by dy d }
+    ensures value { result ≡ bent_by dy d }
+    ensures small { Within (neg_ℤ (pos 1536)) (pos 1536) result }
 {
-    (dy + sixteenth(d)).clamp(-TOP_SPEED, TOP_SPEED)
+    SPEEDS.nearest(dy + sixteenth(d))
 }
 
-pub(crate) fn strike(side: Side, p: Paddle, b: Ball) -> Ball
-    requires { (Flying b) × (OnCourt p) }
-    ensures { result ≡ struck side p b }
+fn touches(b: Ball, p: Paddle) -> bool
+    ensures { result ≡ meets b p }
 {
-    if !touches(b, p) {
-        return b;
-    }
-    Ball {
-        x: p.x + into_court(side, PADDLE_HALF_X + BALL_HALF),
-        y: b.y,
-        dx: into_court(side, quicken(b.dx)),
-        dy: bend(b.dy, b.y - p.y),
+    b.x.abs_diff(p.x) < REACH_X && b.y.abs_diff(p.y) < REACH_Y
+}
+
+// A ball in the middle of a frame, which may be past an end.
+#[derive(Clone, Copy)]
+pub(crate) struct FlyingBall {
+    pub(crate) ball: Ball,
+    ghost flies: { Flying ball },
+}
+
+impl FlyingBall {
+    // A paddle sends the ball away from its own end, where it meets it.
+    #[tactic(auto, unfolding(crate::specs::Frame::struck))]
+    pub(crate) fn strike(self, side: Side, p: Paddle) -> FlyingBall
+        requires { OnCourt p }
+        ensures { result.ball ≡ struck side p self.ball }
+    {
+        let b = self.ball;
+        if !touches(b, p) {
+            return self;
+        }
+        FlyingBall {
+            ball: Ball {
+                x: p.x + into_court(side, PADDLE_HALF_X + BALL_HALF),
+                y: b.y,
+                dx: into_court(side, quicken(b.dx)),
+                dy: bend(b.dy, b.y - p.y),
+            },
+        }
     }
 }

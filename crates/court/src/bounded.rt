@@ -1,13 +1,10 @@
 // A state that is in the court: ball and paddles, velocities, score and wait are each in their range.
-ghost use Rattle.court.specs.Bounds.{BallKept, LeftKept, RightKept, ScoreKept};
+ghost use Rattle.court.specs.Bounds.{InCourt};
 
 use crate::state::State;
 
 #[derive(Clone, Copy)]
 pub struct Court {
     pub state: State,
-    ghost ball: { BallKept state },
-    ghost left: { LeftKept state },
-    ghost right: { RightKept state },
-    ghost score: { ScoreKept state },
+    ghost inside: { InCourt state },
 }

@@ -1,11 +1,13 @@
 // Step 5 of a frame: the ball past an end of the court.
 ghost use Rattle.std.specs.Prelude.{◌≡◌, ◌<◌, ◌≤◌};
-ghost use Rattle.court.specs.Bounds.{Flying, InPlay};
+ghost use Rattle.court.specs.Bounds.{InPlay};
 ghost use Rattle.court.specs.Frame.{in_goal, awarded, serve_ball, scored, turned, end_met, ends_met};
 
 use crate::ball::into_court;
+use crate::bounded::Court;
+use crate::span::BALL_X;
 use crate::state::{Ball, Score, Side, State};
-use crate::{BALL_HALF, WIDTH};
+use crate::{LONGEST_WAIT, MIDDLE_X, MIDDLE_Y, SERVE_X, SERVE_Y};
 
 const GOAL_TOP: i32 = 10240;
 
@@ -14,7 +16,7 @@ const GOAL_BOTTOM: i32 = 20480;
 fn is_goal(y: i32) -> bool
     ensures { result ≡ in_goal y }
 {
-    GOAL_TOP <= y && y <= GOAL_BOTTOM
+    (GOAL_TOP..=GOAL_BOTTOM).contains(&y)
 }
 
 // A point for the seat at the other end.
@@ -41,66 +43,74 @@ fn serve(out: Side, score: Score) -> Ball
 {
     let even = (score.left + score.right) % 2 == 0;
     Ball {
-        x: 20480,
-        y: 15360,
-        dx: into_court(out, 512),
-        dy: if even { 256 } else { -256 },
+        x: MIDDLE_X,
+        y: MIDDLE_Y,
+        dx: into_court(out, SERVE_X),
+        dy: if even { SERVE_Y } else { -SERVE_Y },
     }
 }
 
-fn concede(out: Side, s: State) -> State
-    requires { InPlay s }
-    ensures { result ≡ scored out s }
-{
-    let score = award(out, s.score);
-    State {
-        ball: serve(out, score),
-        score,
-        wait: 60,
-        ..s
-    }
+// A state in the middle of a frame, of a game that is not over.
+#[derive(Clone, Copy)]
+pub(crate) struct Rally {
+    pub(crate) state: State,
+    ghost in_play: { InPlay state },
 }
 
-fn turn(end: Side, b: Ball) -> Ball
-    requires { Flying b }
-    ensures { result ≡ turned end b }
-{
-    let x = match end {
-        Side::Left => BALL_HALF,
-        Side::Right => WIDTH - BALL_HALF,
-    };
-    Ball {
-        x,
-        dx: into_court(end, b.dx.abs()),
-        ..b
-    }
-}
-
-fn meet_end(end: Side, s: State) -> State
-    requires { InPlay s }
-    ensures { result ≡ end_met end s }
-{
-    if is_goal(s.ball.y) {
-        concede(end, s)
-    } else {
+impl Rally {
+    fn concede(self, out: Side) -> State
+        ensures { result ≡ scored out self.state }
+    {
+        let score = award(out, self.state.score);
         State {
-            ball: turn(end, s.ball),
-            ..s
+            ball: serve(out, score),
+            score,
+            wait: LONGEST_WAIT,
+            ..self.state
         }
     }
-}
 
-pub(crate) fn meet_ends(s: State) -> State
-    requires { InPlay s }
-    ensures { result ≡ ends_met s }
-{
-    let past_left = s.ball.x < BALL_HALF;
-    let past_right = s.ball.x > WIDTH - BALL_HALF;
-    if past_left {
-        meet_end(Side::Left, s)
-    } else if past_right {
-        meet_end(Side::Right, s)
-    } else {
-        s
+    fn turn(self, end: Side) -> Ball
+        ensures { result ≡ turned end self.state.ball }
+    {
+        let b = self.state.ball;
+        let x = match end {
+            Side::Left => BALL_X.least,
+            Side::Right => BALL_X.most,
+        };
+        Ball {
+            x,
+            dx: into_court(end, b.dx.abs()),
+            ..b
+        }
+    }
+
+    #[tactic(auto, unfolding(crate::specs::Frame::end_met))]
+    fn meet_end(self, end: Side) -> State
+        ensures { result ≡ end_met end self.state }
+    {
+        if is_goal(self.state.ball.y) {
+            self.concede(end)
+        } else {
+            State {
+                ball: self.turn(end),
+                ..self.state
+            }
+        }
+    }
+
+    #[tactic(auto, unfolding(crate::specs::Frame::ends_met))]
+    pub(crate) fn meet_ends(self) -> State
+        ensures { result ≡ ends_met self.state }
+    {
+        let past_left = self.state.ball.x < BALL_X.least;
+        let past_right = self.state.ball.x > BALL_X.most;
+        if past_left {
+            self.meet_end(Side::Left)
+        } else if past_right {
+            self.meet_end(Side::Right)
+        } else {
+            self.state
+        }
     }
 }

@@ -1,49 +1,65 @@
 // One frame, from a state in the court to the next.
 ghost use Rattle.std.specs.Prelude.{◌≡◌, ◌<◌};
 ghost use Rattle.court.specs.Bounds.{InCourt};
-ghost use Rattle.court.specs.Frame.{over, ball_played, advanced};
+ghost use Rattle.court.specs.Frame.{over, waited, ball_played, advanced};
 
-use crate::ball::{move_ball, strike};
-use crate::ends::meet_ends;
+use crate::LAST_POINT;
+use crate::ball::{FlyingBall, move_ball};
+use crate::bounded::Court;
+use crate::ends::Rally;
 use crate::input::Input;
-use crate::paddle::move_paddles;
 use crate::state::{Side, State};
 
-pub(crate) const LAST_POINT: u8 = 9;
-
-fn is_over(s: State) -> bool
-    ensures { result ≡ over s }
-{
-    s.score.left >= LAST_POINT || s.score.right >= LAST_POINT
-}
-
-// Steps 3 to 5: what the ball does.
-fn play_ball(s: State) -> State
-    requires { (InCourt s) × ((s.score.left < 9) × (s.score.right < 9)) }
-    ensures { result ≡ ball_played s }
-{
-    let moved = move_ball(s.ball);
-    let after_left = strike(Side::Left, s.left, moved);
-    let ball = strike(Side::Right, s.right, after_left);
-    meet_ends(State { ball, ..s })
-}
-
-pub(crate) fn next_state(s: State, left: Input, right: Input) -> State
-    requires { InCourt s }
-    ensures value { result ≡ advanced s left.0 right.0 }
-    ensures inside { InCourt result }
-{
-    if is_over(s) {
-        return s;
+impl Court {
+    fn is_over(self) -> bool
+        ensures { result ≡ over self.state }
+    {
+        let score = self.state.score;
+        score.left >= LAST_POINT || score.right >= LAST_POINT
     }
-    let moved = move_paddles(s, left, right);
-    let waits = moved.wait != 0;
-    if waits {
-        State {
-            wait: moved.wait - 1,
-            ..moved
+
+    // Steps 3 to 5: what the ball does.
+    fn play_ball(self) -> Court
+        requires { (self.state.score.left < 9) × (self.state.score.right < 9) }
+        ensures { result.state ≡ ball_played self.state }
+    {
+        let s = self.state;
+        let moved = FlyingBall {
+            ball: move_ball(s.ball),
+        };
+        let struck = moved
+            .strike(Side::Left, s.left)
+            .strike(Side::Right, s.right);
+        let rally = Rally {
+            state: State {
+                ball: struck.ball,
+                ..s
+            },
+        };
+        Court {
+            state: rally.meet_ends(),
         }
-    } else {
-        play_ball(moved)
+    }
+
+    // Steps 1 and 2 are here. A game that is over stays as it is.
+    pub fn frame(self, left: Input, right: Input) -> Court
+        ensures value { result.state ≡ advanced self.state left.0 right.0 }
+        ensures inside { InCourt result.state }
+    {
+        if self.is_over() {
+            return self;
+        }
+        let moved = self.move_paddles(left, right);
+        let waits = moved.state.wait != 0;
+        if waits {
+            Court {
+                state: State {
+                    wait: moved.state.wait - 1,
+                    ..moved.state
+                },
+            }
+        } else {
+            moved.play_ball()
+        }
     }
 }

@@ -1,14 +1,14 @@
-// The game as others use it: its start, and one frame on.
+// The game's start.
 ghost use Rattle.std.specs.Prelude.{◌≡◌};
 ghost use Rattle.court.specs.Bounds.{InCourt};
-ghost use Rattle.court.specs.Frame.{start, advanced};
+ghost use Rattle.court.specs.Frame.{start};
 
 use crate::bounded::Court;
-use crate::frame::next_state;
-use crate::input::Input;
 use crate::state::{Ball, Paddle, Score, State};
+use crate::{LONGEST_WAIT, MIDDLE_X, MIDDLE_Y, SERVE_X, SERVE_Y};
 
 impl Court {
+    #[tactic(auto, unfolding(crate::specs::Frame::start))]
     pub fn new() -> Court
         ensures value { result.state ≡ start }
         ensures inside { InCourt result.state }
@@ -16,25 +16,22 @@ impl Court {
         Court {
             state: State {
                 ball: Ball {
-                    x: 20480,
-                    y: 15360,
-                    dx: 512,
-                    dy: 256,
+                    x: MIDDLE_X,
+                    y: MIDDLE_Y,
+                    dx: SERVE_X,
+                    dy: SERVE_Y,
                 },
-                left: Paddle { x: 2048, y: 15360 },
-                right: Paddle { x: 38912, y: 15360 },
+                left: Paddle {
+                    x: 2048,
+                    y: MIDDLE_Y,
+                },
+                right: Paddle {
+                    x: 38912,
+                    y: MIDDLE_Y,
+                },
                 score: Score { left: 0, right: 0 },
-                wait: 60,
+                wait: LONGEST_WAIT,
             },
-        }
-    }
-
-    pub fn frame(self, left: Input, right: Input) -> Court
-        ensures value { result.state ≡ advanced self.state left.0 right.0 }
-        ensures inside { InCourt result.state }
-    {
-        Court {
-            state: next_state(self.state, left, right),
         }
     }
 }

@@ -1,40 +1,34 @@
 // A seat's input for one frame: the keys that are held, a bit each.
 ghost use Rattle.std.specs.Prelude.{◌≡◌};
 ghost use Rattle.court.specs.Frame.{bit};
+ghost use Rattle.court.specs.Keys.{mask_of};
 
-const LEFT: u8 = 1;
+#[derive(Clone, Copy)]
+pub(crate) enum Key {
+    Left,
+    Right,
+    Up,
+    Down,
+}
 
-const RIGHT: u8 = 2;
-
-const UP: u8 = 4;
-
-const DOWN: u8 = 8;
+fn mask(key: Key) -> u8
+    ensures { result ≡ mask_of key }
+{
+    match key {
+        Key::Left => 1,
+        Key::Right => 2,
+        Key::Up => 4,
+        Key::Down => 8,
+    }
+}
 
 #[derive(Clone, Copy)]
 pub struct Input(pub u8);
 
 impl Input {
-    pub(crate) fn left(self) -> bool
-        ensures { result ≡ bit 1 self.0 }
+    pub(crate) fn holds(self, key: Key) -> bool
+        ensures { result ≡ bit (mask_of key) self.0 }
     {
-        self.0 & LEFT != 0
-    }
-
-    pub(crate) fn right(self) -> bool
-        ensures { result ≡ bit 2 self.0 }
-    {
-        self.0 & RIGHT != 0
-    }
-
-    pub(crate) fn up(self) -> bool
-        ensures { result ≡ bit 4 self.0 }
-    {
-        self.0 & UP != 0
-    }
-
-    pub(crate) fn down(self) -> bool
-        ensures { result ≡ bit 8 self.0 }
-    {
-        self.0 & DOWN != 0
+        self.0 & mask(key) != 0
     }
 }

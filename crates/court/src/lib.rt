@@ -11,6 +11,7 @@ mod frame;
 pub mod game;
 pub mod input;
 mod paddle;
+mod span;
 pub mod state;
 
 pub use bounded::Court;
@@ -27,3 +28,21 @@ pub const BALL_HALF: i32 = 512;
 pub const PADDLE_HALF_X: i32 = 512;
 
 pub const PADDLE_HALF_Y: i32 = 2048;
+
+// The middle of the court, and the velocity of a ball that is served from it.
+pub(crate) const MIDDLE_X: i32 = WIDTH / 2;
+
+pub(crate) const MIDDLE_Y: i32 = HEIGHT / 2;
+
+pub(crate) const SERVE_X: i32 = 512;
+
+pub(crate) const SERVE_Y: i32 = 256;
+
+// The most that a velocity is, in x as in y.
+pub(crate) const TOP_SPEED: i32 = 1536;
+
+// The points that end a game.
+pub(crate) const LAST_POINT: u8 = 9;
+
+// The frames that a served ball waits. None waits longer.
+pub(crate) const LONGEST_WAIT: u8 = 60;

@@ -1,60 +1,50 @@
 // Step 1 of a frame: each paddle goes by its seat's input.
-ghost use Rattle.std.specs.Prelude.{◌≡◌, pos, ◌+ℤ◌, ◌≤ℤ◌};
-ghost use Rattle.court.specs.Bounds.{Within, OnCourt, InCourt};
-ghost use Rattle.court.specs.Frame.{between, stepped, paddle_moved, paddles_moved};
+ghost use Rattle.std.specs.Prelude.{◌≡◌, pos, neg_ℤ};
+ghost use Rattle.court.specs.Bounds.{Within, OnCourt, PaddleIn};
+ghost use Rattle.court.specs.Frame.{bit, stepped, paddle_moved, paddles_moved};
+ghost use Rattle.court.specs.Keys.{mask_of};
 
-use crate::input::Input;
+use crate::Court;
+use crate::input::{Input, Key};
+use crate::span::{LEFT_HALF, PADDLE_Y, RIGHT_HALF, Span};
 use crate::state::{Paddle, State};
-use crate::{HEIGHT, PADDLE_HALF_X, PADDLE_HALF_Y, WIDTH};
-
-pub(crate) const LEFT_MOST: i32 = 19968;
-
-pub(crate) const RIGHT_LEAST: i32 = 20992;
 
 const SPEED: i32 = 512;
 
-fn step(back: bool, forth: bool) -> i32
-    ensures { result ≡ stepped back forth }
+// How far a paddle goes by a pair of keys. Both are as good as none.
+fn step(input: Input, back: Key, forth: Key) -> i32
+    ensures value { result ≡ stepped (bit (mask_of back) input.0) (bit (mask_of forth) input.0) }
+    ensures small { Within (neg_ℤ (pos 512)) (pos 512) result }
 {
-    if back == forth {
-        0
-    } else if back {
-        -SPEED
-    } else {
-        SPEED
+    match (input.holds(back), input.holds(forth)) {
+        (true, false) => -SPEED,
+        (false, true) => SPEED,
+        _ => 0,
     }
 }
 
-fn shift(at: i32, back: bool, forth: bool, lo: i32, hi: i32) -> i32
-    requires { (Within (pos 0) (pos 40960) at) × (lo ≤ℤ hi) }
-    ensures { result ≡ between lo hi (at +ℤ stepped back forth) }
-{
-    (at + step(back, forth)).clamp(lo, hi)
-}
-
-fn move_paddle(p: Paddle, input: Input, lo: i32, hi: i32) -> Paddle
-    requires { (OnCourt p) × (lo ≤ℤ hi) }
-    ensures { result ≡ paddle_moved lo hi p input.0 }
+fn move_paddle(p: Paddle, input: Input, half: Span) -> Paddle
+    requires { OnCourt p }
+    ensures value { result ≡ paddle_moved half.least half.most p input.0 }
+    ensures inside { PaddleIn half.least half.most result }
 {
     Paddle {
-        x: shift(p.x, input.left(), input.right(), lo, hi),
-        y: shift(
-            p.y,
-            input.up(),
-            input.down(),
-            PADDLE_HALF_Y,
-            HEIGHT - PADDLE_HALF_Y,
-        ),
+        x: half.nearest(p.x + step(input, Key::Left, Key::Right)),
+        y: PADDLE_Y.nearest(p.y + step(input, Key::Up, Key::Down)),
     }
 }
 
-pub(crate) fn move_paddles(s: State, left: Input, right: Input) -> State
-    requires { InCourt s }
-    ensures { result ≡ paddles_moved s left.0 right.0 }
-{
-    State {
-        left: move_paddle(s.left, left, PADDLE_HALF_X, LEFT_MOST),
-        right: move_paddle(s.right, right, RIGHT_LEAST, WIDTH - PADDLE_HALF_X),
-        ..s
+impl Court {
+    pub(crate) fn move_paddles(self, left: Input, right: Input) -> Court
+        ensures { result.state ≡ paddles_moved self.state left.0 right.0 }
+    {
+        let s = self.state;
+        Court {
+            state: State {
+                left: move_paddle(s.left, left, LEFT_HALF),
+                right: move_paddle(s.right, right, RIGHT_HALF),
+                ..s
+            },
+        }
     }
 }

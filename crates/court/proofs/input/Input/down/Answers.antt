@@ -1,5 +1,0 @@
-use Rattle.court.proofs.Bits.{mask_bit}
-use Rattle.court.proofs.input.Input.down.Goals as goal
-
-pub returns : goal.returns
-returns c = mask_bit c.args.self.0 3
