@@ -1,5 +1,5 @@
 -- Both machines' memory along a row of moves. Assumes nothing.
-use Rattle.std.proofs.Common.{◌≡◌, ℕ, ◌+◌, ◌<◌, ◌≤◌, Bool, true, false, cond, leb, List, [], ◌∷◌, ◌++◌, map, length, get_or, take, sym, refl, ap, ◌∙◌, subst, arith}
+use Rattle.std.proofs.Common.{◌≡◌, ℕ, Vec, Global, ◌+◌, ◌<◌, ◌≤◌, Bool, true, false, cond, leb, List, [], ◌∷◌, ◌++◌, map, length, get_or, take, sym, refl, ap, ◌∙◌, subst, arith}
 use Rattle.std.proofs.lemmas.List.{take_more}
 use Rattle.std.proofs.lemmas.Bool.{leb-true}
 use Rattle.court_game.specs.Games.{court_game}
@@ -20,12 +20,11 @@ use Rattle.rollback.specs.Rows.{Memory, StandsFor}
 use Rattle.exchange.specs.declared.moves.Move.{Move}
 use Rattle.exchange.specs.declared.moves.Act.{Act}
 use Rattle.exchange.specs.declared.moves.Act.TheVariants.{Tick, Deliver}
-use Rattle.exchange.specs.declared.moves.Sent.{Sent}
 use Rattle.exchange.specs.Agreed.{Agree}
 use Rattle.exchange.specs.Moves.{court_network, court_turn, sends_at, acted, moves_on, after_moves, PeerAt, PacketsAt}
 
 -- both memories, and all packets, are those of a network
-pub record Holds (window : ℕ) (n : Network) (left right : Memory) (to_left to_right : List Sent) : Type 0 where
+pub record Holds (window : ℕ) (n : Network) (left right : Memory) (to_left to_right : List (Vec ℕ Global)) : Type 0 where
   pub left_at : PeerAt window n Left left
   pub right_at : PeerAt window n Right right
   pub left_packets : PacketsAt n Left to_left
@@ -74,13 +73,13 @@ right_leaves window n (Deliver k) = (refl, refl)
 
 -- ---- both machines, move by move
 
-pub holds_left : (window : ℕ) (n : Network) (act : Act) (l k r : Memory) (tl tr ur : List Sent) → Holds window n l r tl tr → PeerAt window (acted window n Left act) Left k × PacketsAt (acted window n Left act) Right ur → Holds window (acted window n Left act) k r tl ur
+pub holds_left : (window : ℕ) (n : Network) (act : Act) (l k r : Memory) (tl tr ur : List (Vec ℕ Global)) → Holds window n l r tl tr → PeerAt window (acted window n Left act) Left k × PacketsAt (acted window n Left act) Right ur → Holds window (acted window n Left act) k r tl ur
 holds_left window n act l k r tl tr ur h did =
     let leaves = left_leaves window n act in
     let P : Log → Type 0 = λ log. StandsFor court_saved Right window log r in
     record { left_at = did.0; right_at = subst P (sym leaves.0) h.right_at; left_packets = h.left_packets ∙ ap (map message_bytes) (sym leaves.1); right_packets = did.1 }
 
-pub holds_right : (window : ℕ) (n : Network) (act : Act) (l r k : Memory) (tl tr ul : List Sent) → Holds window n l r tl tr → PeerAt window (acted window n Right act) Right k × PacketsAt (acted window n Right act) Left ul → Holds window (acted window n Right act) l k ul tr
+pub holds_right : (window : ℕ) (n : Network) (act : Act) (l r k : Memory) (tl tr ul : List (Vec ℕ Global)) → Holds window n l r tl tr → PeerAt window (acted window n Right act) Right k × PacketsAt (acted window n Right act) Left ul → Holds window (acted window n Right act) l k ul tr
 holds_right window n act l r k tl tr ul h did =
     let leaves = right_leaves window n act in
     let P : Log → Type 0 = λ log. StandsFor court_saved Left window log l in
@@ -143,7 +142,7 @@ network_agrees window ts =
       right_near = not_far (λ b. leb b 15) window ts Right;
     }
 
-pub holds_agree : (window : ℕ) (ms : List Move) (l r : Memory) (tl tr : List Sent) → Holds window (after_moves window ms) l r tl tr → Agree window (log_of l.peer l.inputs) (log_of r.peer r.inputs)
+pub holds_agree : (window : ℕ) (ms : List Move) (l r : Memory) (tl tr : List (Vec ℕ Global)) → Holds window (after_moves window ms) l r tl tr → Agree window (log_of l.peer l.inputs) (log_of r.peer r.inputs)
 holds_agree window ms l r tl tr h =
     let is = after_network window ms in
     let P : Network → Type 0 = λ n. Agree window n.left n.right in
@@ -151,7 +150,7 @@ holds_agree window ms l r tl tr h =
     subst (λ a. Agree window a (log_of r.peer r.inputs)) (sym h.left_at.log_is) (subst (λ b. Agree window (after_moves window ms).left b) (sym h.right_at.log_is) all)
 
 -- and are sure of what both had played before a packet of each came
-pub holds_sure : (window : ℕ) (ms : List Move) (l r : Memory) (tl tr : List Sent) (m : ℕ) (ts : List Turn) → Holds window (after_moves window ms) l r tl tr → after_moves window ms ≡ court_network window ts → ((seat : Seat) → Came (λ b. leb b 15) window m ts seat) → (m ≤ confirmed (log_of l.peer l.inputs)) × (m ≤ confirmed (log_of r.peer r.inputs))
+pub holds_sure : (window : ℕ) (ms : List Move) (l r : Memory) (tl tr : List (Vec ℕ Global)) (m : ℕ) (ts : List Turn) → Holds window (after_moves window ms) l r tl tr → after_moves window ms ≡ court_network window ts → ((seat : Seat) → Came (λ b. leb b 15) window m ts seat) → (m ≤ confirmed (log_of l.peer l.inputs)) × (m ≤ confirmed (log_of r.peer r.inputs))
 holds_sure window ms l r tl tr m ts h e came =
     let near = l.peer.near in
     let is = h.left_at.window_is in

@@ -1,14 +1,16 @@
 -- Two sessions and the packets between them, as a network. Assumes nothing: these are definitions.
-use Rattle.std.specs.Prelude.{◌≡◌, ℕ, cond, leb, List, [], ◌∷◌, map, take, nat_le}
+use Rattle.std.specs.Prelude.{◌≡◌, ℕ, cond, leb, List, [], ◌∷◌, map, vec_items, Vec, nat_le}
+use Rattle.std.specs.Global.{Global}
 use Rattle.court_game.specs.Saved.{court_saved}
 use Rattle.game.specs.declared.seat.Seat.{Seat}
 use Rattle.packet.specs.Wire.{message_bytes}
 use Rattle.network.specs.Network.{Network, Turn, tick, send, deliver, peer_at, packets_to, new_network, turn, network}
 use Rattle.rollback.specs.Rows.{Memory, StandsFor}
+use Rattle.rollback_session.specs.Rows.{memory}
 use Rattle.exchange.specs.declared.moves.Move.{Move}
 use Rattle.exchange.specs.declared.moves.Act.{Act}
 use Rattle.exchange.specs.declared.moves.Act.TheVariants.{Tick, Deliver}
-use Rattle.exchange.specs.declared.moves.Sent.{Sent}
+use Rattle.exchange.specs.declared.machine.Machine.{Machine}
 
 -- a network of the court's game: what a row of turns makes of the new one
 abbrev pub court_network : ℕ → List Turn → Network
@@ -38,13 +40,18 @@ after_moves window ms = moves_on window new_network ms
 
 -- ---- memory
 
-abbrev pub sent_bytes : Sent → List ℕ
-sent_bytes s = take s.length s.bytes
+-- a machine's numbers and its lent memory
+abbrev pub memory_of : Machine → Memory
+memory_of m = memory m.peer m.inputs.now m.states.now
+
+-- the memory that is lent is the same, whatever it holds
+abbrev pub SameLent : Machine → Machine → Type 0
+SameLent a b = (b.inputs.ghost_name ≡ a.inputs.ghost_name) × (b.states.ghost_name ≡ a.states.ghost_name)
 
 -- memory that stands for the peer at a seat of a network
 abbrev pub PeerAt : ℕ → Network → Seat → Memory → Type 0
 PeerAt window n seat m = StandsFor court_saved seat window (peer_at n seat) m
 
 -- packets that are those ever written to a seat
-abbrev pub PacketsAt : Network → Seat → List Sent → Type 0
-PacketsAt n seat ps = map sent_bytes ps ≡ map message_bytes (packets_to n seat)
+abbrev pub PacketsAt : Network → Seat → List (Vec ℕ Global) → Type 0
+PacketsAt n seat ps = map vec_items ps ≡ map message_bytes (packets_to n seat)

@@ -4,7 +4,7 @@
 
 #![tactic(auto)]
 
+pub mod machine;
 pub mod moves;
 pub mod run;
-pub mod sides;
 pub mod tally;

@@ -1,8 +1,5 @@
 // What happens at two machines, and the packets between them.
-ghost use Rattle.std.specs.Prelude.{◌≤◌};
-
 use game::seat::Seat;
-use rollback_session::calls::PACKET_LENGTH;
 
 // What happens at one of them.
 #[derive(Clone, Copy)]
@@ -17,12 +14,4 @@ pub enum Act {
 pub struct Move {
     pub seat: Seat,
     pub act: Act,
-}
-
-// A packet that was written.
-#[derive(Clone, Copy)]
-pub struct Sent {
-    pub bytes: [u8; PACKET_LENGTH],
-    pub length: usize,
-    ghost fits: { length ≤ 130 },
 }

@@ -10,12 +10,12 @@ ghost use Rattle.network.specs.Network.{Turn};
 ghost use Rattle.network.specs.Promise.{Came};
 ghost use Rattle.peer.specs.Lent.{log_of};
 ghost use Rattle.peer.specs.Peers.{confirmed};
-ghost use Rattle.rollback_session.specs.Rows.{memory};
 ghost use Rattle.exchange.specs.Moves.{after_moves, court_network, PeerAt};
 ghost use Rattle.exchange.specs.Agreed.{Agree};
+ghost use Rattle.rollback_session.specs.Rows.{memory};
 
+use crate::machine::Machine;
 use crate::moves::Move;
-use crate::sides::act_at;
 use crate::tally::Tally;
 use game::seat::Seat;
 use peer::Peer;
@@ -23,13 +23,18 @@ use rollback_session::Refused;
 use rollback_session::calls::begin;
 use std::alloc::{AllocError, Global};
 
-// Both machines, and what the events at each came to.
+// What a machine came to.
+#[derive(Clone, Copy)]
+pub struct Played {
+    pub peer: Peer,
+    pub tally: Tally,
+}
+
+// Both machines, after all moves.
 #[derive(Clone, Copy)]
 pub struct Both {
-    pub left: Peer,
-    pub right: Peer,
-    pub left_tally: Tally,
-    pub right_tally: Tally,
+    pub left: Played,
+    pub right: Played,
 }
 
 // Why a row of moves is not played.
@@ -60,6 +65,7 @@ impl From<Refused> for Unplayed {
 // Both machines begin, and all moves are made. Whatever the radio loses, doubles, delays or exchanges: both memories are those of the
 // network after these moves, and both are sure of one and the same game; of all frames that both had played when a packet of each
 // was written that then came to the other.
+// The lent slices are parameters each: of a struct by value the clauses would name them by their places, as left.exit.0.
 pub fn play_moves(
     heap: Global,
     window: usize,
@@ -71,43 +77,42 @@ pub fn play_moves(
     row: &[Move],
 ) -> Result<Both, Unplayed>
     ensures refused { (f : Faults) → result ≡ Err (Unbegun f) → (said_begun (begin_checked window (length left_inputs.old) (length left_states.old)) (length picture.now) ≡ Err f) ⊎ (said_begun (begin_checked window (length right_inputs.old) (length right_states.old)) (length picture.now) ≡ Err f) }
-    ensures left { IfOk result (λ b. PeerAt window (after_moves window row.now) Left (memory b.left left_inputs.new left_states.new)) }
-    ensures right { IfOk result (λ b. PeerAt window (after_moves window row.now) Right (memory b.right right_inputs.new right_states.new)) }
-    ensures agree { IfOk result (λ b. Agree window (log_of b.left left_inputs.new) (log_of b.right right_inputs.new)) }
-    ensures sure { IfOk result (λ b. (m : ℕ) (ts : List Turn) → after_moves window row.now ≡ court_network window ts → ((seat : At) → Came (λ a. nat_le a 15) window m ts seat) → (m ≤ confirmed (log_of b.left left_inputs.new)) × (m ≤ confirmed (log_of b.right right_inputs.new))) }
+    ensures left { IfOk result (λ b. PeerAt window (after_moves window row.now) Left (memory b.left.peer left_inputs.new left_states.new)) }
+    ensures right { IfOk result (λ b. PeerAt window (after_moves window row.now) Right (memory b.right.peer right_inputs.new right_states.new)) }
+    ensures agree { IfOk result (λ b. Agree window (log_of b.left.peer left_inputs.new) (log_of b.right.peer right_inputs.new)) }
+    ensures sure { IfOk result (λ b. (m : ℕ) (ts : List Turn) → after_moves window row.now ≡ court_network window ts → ((seat : At) → Came (λ a. nat_le a 15) window m ts seat) → (m ≤ confirmed (log_of b.left.peer left_inputs.new)) × (m ≤ confirmed (log_of b.right.peer right_inputs.new))) }
 {
-    let mut left = begin(Seat::Left, window, left_inputs, left_states, picture)?;
-    let mut right = begin(Seat::Right, window, right_inputs, right_states, picture)?;
+    let peer = begin(Seat::Left, window, left_inputs, left_states, picture)?;
+    // No function makes a machine: a Result of one gets no proof, and after a plain call what the loop left in memory is not known.
+    let mut left = Machine {
+        peer,
+        inputs: left_inputs,
+        states: left_states,
+        tally: Tally::new(),
+    };
+    let peer = begin(Seat::Right, window, right_inputs, right_states, picture)?;
+    let mut right = Machine {
+        peer,
+        inputs: right_inputs,
+        states: right_states,
+        tally: Tally::new(),
+    };
     let mut to_left = Vec::new(heap);
     let mut to_right = Vec::new(heap);
-    let mut left_tally = Tally::new();
-    let mut right_tally = Tally::new();
     for step in row {
         match step.seat {
-            Seat::Left => act_at(
-                &mut left,
-                left_inputs,
-                left_states,
-                step.act,
-                to_left.as_slice(),
-                &mut to_right,
-                &mut left_tally,
-            )?,
-            Seat::Right => act_at(
-                &mut right,
-                right_inputs,
-                right_states,
-                step.act,
-                to_right.as_slice(),
-                &mut to_left,
-                &mut right_tally,
-            )?,
+            Seat::Left => left.act(step.act, to_left.as_slice(), &mut to_right)?,
+            Seat::Right => right.act(step.act, to_right.as_slice(), &mut to_left)?,
         }
     }
     Ok(Both {
-        left,
-        right,
-        left_tally,
-        right_tally,
+        left: Played {
+            peer: left.peer,
+            tally: left.tally,
+        },
+        right: Played {
+            peer: right.peer,
+            tally: right.tally,
+        },
     })
 }

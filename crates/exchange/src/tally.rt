@@ -2,6 +2,7 @@
 ghost use Rattle.std.specs.Prelude.{◌≡◌};
 ghost use Rattle.exchange.specs.Tallies.{counted_by};
 
+use crate::moves::Act;
 use rollback::Outcome;
 
 #[derive(Clone, Copy)]
@@ -28,20 +29,27 @@ impl Tally {
     }
 
     // With one event more. What a packet plays was played before.
-    pub fn counted(self, outcome: Outcome, ticked: bool) -> Tally
-        ensures { result ≡ counted_by outcome ticked self }
+    pub fn counted(self, act: Act, outcome: Outcome) -> Tally
+        ensures { result ≡ counted_by act outcome self }
     {
-        let mut next = self;
-        match outcome {
-            Outcome::Taken(frames) => {
-                next.played = self.played.saturating_add(frames);
-                if !ticked {
-                    next.again = self.again.saturating_add(frames);
-                }
-            }
-            Outcome::Lost => next.lost = self.lost.saturating_add(1),
-            Outcome::Refused(_) => next.refused = self.refused.saturating_add(1),
+        match (outcome, act) {
+            (Outcome::Taken(frames), Act::Tick(_)) => Tally {
+                played: self.played.saturating_add(frames),
+                ..self
+            },
+            (Outcome::Taken(frames), Act::Deliver(_)) => Tally {
+                played: self.played.saturating_add(frames),
+                again: self.again.saturating_add(frames),
+                ..self
+            },
+            (Outcome::Lost, _) => Tally {
+                lost: self.lost.saturating_add(1),
+                ..self
+            },
+            (Outcome::Refused(_), _) => Tally {
+                refused: self.refused.saturating_add(1),
+                ..self
+            },
         }
-        next
     }
 }

@@ -1,0 +1,93 @@
+// One of the two machines: a tick with the packet that it writes, and a packet that comes.
+ghost use Rattle.std.specs.Prelude.{◌≡◌, ℕ, List, Some, length, is_some, IfOk, IfSome, OnOk, ◌≢◌, nat_lt};
+ghost use Rattle.game.specs.declared.seat.Seat.{Seat as At};
+ghost use Rattle.network.specs.Network.{Network, Turn, facing};
+ghost use Rattle.rollback.specs.declared.outcome.Outcome.TheVariants.{Refused as Unfit};
+ghost use Rattle.peer.specs.declared.outcome.Refusal.{Refusal};
+ghost use Rattle.exchange.specs.declared.moves.Act.TheVariants.{Tick, Deliver};
+ghost use Rattle.exchange.specs.Moves.{court_network, acted, memory_of, SameLent, PeerAt, PacketsAt};
+ghost use Rattle.exchange.specs.Tallies.{counted_by};
+
+use crate::moves::Act;
+use crate::tally::Tally;
+use peer::Peer;
+use rollback::Outcome;
+use rollback_session::Happening;
+use rollback_session::calls::{PACKET_LENGTH, happen};
+use std::alloc::AllocError;
+
+// A peer over lent memory, and what its events came to.
+#[derive(Drop)]
+pub struct Machine<'a> {
+    pub peer: Peer,
+    pub inputs: &'a mut [u8],
+    pub states: &'a mut [u8],
+    pub tally: Tally,
+}
+
+impl<'a> Machine<'a> {
+    // A frame's time, and the packet that is then written.
+    pub fn tick(&mut self, input: u8, sent: &mut Vec<Vec<u8>>) -> Result<Outcome, AllocError>
+        ensures at { OnOk result ((window : ℕ) (n : Network) (seat : At) → PeerAt window n seat (memory_of self.old) → PacketsAt n (facing seat) sent.old.items → PeerAt window (acted window n seat (Tick input)) seat (memory_of self.new) × PacketsAt (acted window n seat (Tick input)) (facing seat) sent.new.items) }
+        ensures tally { IfOk result (λ o. self.new.tally ≡ counted_by (Tick input) o self.old.tally) }
+        ensures lent { SameLent self.old self.new }
+    {
+        let mut out = [0; PACKET_LENGTH];
+        let answer = happen(
+            &mut self.peer,
+            self.inputs,
+            self.states,
+            Happening::Tick(input),
+            &mut out,
+        );
+        self.tally = self.tally.counted(Act::Tick(input), answer.outcome);
+        if let Some(length) = answer.sent {
+            let heap = *sent.allocator();
+            sent.push(out[..length].to_vec(heap)?)?;
+        }
+        Ok(answer.outcome)
+    }
+
+    // A packet of those that were written to this machine comes to it. Nothing happens where there is none of that number; and none
+    // is refused that a machine like this one wrote.
+    pub fn deliver(&mut self, packets: &[Vec<u8>], number: usize) -> Option<Outcome>
+        ensures there { is_some result ≡ nat_lt number (length packets.now) }
+        ensures at { (window : ℕ) (n : Network) (seat : At) → PeerAt window n seat (memory_of self.old) → PacketsAt n seat packets.now → PeerAt window (acted window n seat (Deliver number)) seat (memory_of self.new) }
+        ensures taken { (window : ℕ) (ts : List Turn) (seat : At) → PeerAt window (court_network window ts) seat (memory_of self.old) → PacketsAt (court_network window ts) seat packets.now → (f : Refusal) → result ≢ Some (Unfit f) }
+        ensures tally { IfSome result (λ o. self.new.tally ≡ counted_by (Deliver number) o self.old.tally) }
+        ensures lent { SameLent self.old self.new }
+    {
+        let packet = packets.get(number)?;
+        let mut out = [0; PACKET_LENGTH];
+        let answer = happen(
+            &mut self.peer,
+            self.inputs,
+            self.states,
+            Happening::Arrival(packet.as_slice()),
+            &mut out,
+        );
+        self.tally = self.tally.counted(Act::Deliver(number), answer.outcome);
+        Some(answer.outcome)
+    }
+
+    // One or the other.
+    pub(crate) fn act(
+        &mut self,
+        act: Act,
+        packets: &[Vec<u8>],
+        sent: &mut Vec<Vec<u8>>,
+    ) -> Result<(), AllocError>
+        ensures at { OnOk result ((window : ℕ) (n : Network) (seat : At) → PeerAt window n seat (memory_of self.old) → PacketsAt n seat packets.now → PacketsAt n (facing seat) sent.old.items → PeerAt window (acted window n seat act) seat (memory_of self.new) × PacketsAt (acted window n seat act) (facing seat) sent.new.items) }
+        ensures lent { SameLent self.old self.new }
+    {
+        match act {
+            Act::Tick(input) => {
+                self.tick(input, sent)?;
+            }
+            Act::Deliver(number) => {
+                self.deliver(packets, number);
+            }
+        }
+        Ok(())
+    }
+}
