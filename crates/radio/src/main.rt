@@ -7,13 +7,11 @@
 
 #![tactic(auto)]
 
-use anyhow::anyhow;
+use anyhow::{anyhow, bail};
 use court_game::plain::play;
 use exchange::moves::{Act, Move};
-use exchange::run::{Both, Unplayed, play_moves};
-use exchange::tally::Tally;
+use exchange::run::{Both, Played, Unplayed, play_moves};
 use game::seat::Seat;
-use peer::Peer;
 use rollback_session::calls::status;
 use std::alloc::{AllocError, Global};
 use std::env;
@@ -41,6 +39,24 @@ struct Options {
     delay: u64,
 }
 
+impl TryFrom<&[u64]> for Options {
+    type Error = anyhow::Error;
+
+    fn try_from(row: &[u64]) -> anyhow::Result<Options> {
+        let [seed, window, ticks, loss, twice, delay] = row else {
+            bail!(USAGE);
+        };
+        Ok(Options {
+            seed: *seed,
+            window: usize::try_from(*window)?,
+            ticks: *ticks,
+            loss: *loss,
+            twice: *twice,
+            delay: *delay,
+        })
+    }
+}
+
 // Numbers by the seed.
 #[derive(Drop)]
 struct Random(u64);
@@ -53,7 +69,7 @@ impl Random {
             .wrapping_mul(6_364_136_223_846_793_005)
             .wrapping_add(1_442_695_040_888_963_407);
         let high = self.0 >> 33;
-        if n == 0 { 0 } else { high % n }
+        high.checked_rem(n).unwrap_or(0)
     }
 }
 
@@ -65,130 +81,106 @@ struct Flight {
     number: usize,
 }
 
-fn facing(seat: Seat) -> Seat {
-    match seat {
-        Seat::Left => Seat::Right,
-        Seat::Right => Seat::Left,
-    }
-}
-
-// What the radio does with a packet: it is lost, or comes once or twice, each time after a delay of its own.
-fn send(
-    random: &mut Random,
+// A bad radio: the packets under way, and the moves that were made.
+#[derive(Drop)]
+struct Radio {
     options: Options,
-    good: bool,
-    flight: Flight,
-    air: &mut Vec<Flight>,
-) -> Result<(), AllocError> {
-    let lost = random.below(256) < options.loss;
-    let twice = random.below(256) < options.twice;
-    let first = random.below(options.delay.saturating_sub(1));
-    let second = random.below(options.delay.saturating_sub(1));
-    let now = flight.due.saturating_add(2);
-    if good {
-        air.push(Flight { due: now, ..flight })?;
-        return Ok(());
-    }
-    if !lost {
-        air.push(Flight {
-            due: now.saturating_add(first),
-            ..flight
-        })?;
-    }
-    if !lost && twice {
-        air.push(Flight {
-            due: now.saturating_add(second),
-            ..flight
-        })?;
-    }
-    Ok(())
+    random: Random,
+    air: Vec<Flight>,
+    moves: Vec<Move>,
 }
 
-// The packets that come to a machine now.
-fn deliver(
-    tick: u64,
-    seat: Seat,
-    air: &Vec<Flight>,
-    moves: &mut Vec<Move>,
-) -> Result<(), AllocError> {
-    for flight in air.iter() {
-        let here = match (flight.seat, seat) {
-            (Seat::Left, Seat::Left) | (Seat::Right, Seat::Right) => true,
-            (Seat::Left, Seat::Right) | (Seat::Right, Seat::Left) => false,
-        };
-        if flight.due == tick && here {
-            let act = Act::Deliver(flight.number);
-            moves.push(Move { seat, act })?;
+impl Radio {
+    fn new(heap: Global, options: Options) -> Radio {
+        Radio {
+            options,
+            random: Random(options.seed),
+            air: Vec::new(heap),
+            moves: Vec::new(heap),
         }
     }
-    Ok(())
-}
 
-// One machine's tick: what comes, the tick, and its packet. An input is held for some ticks, as a crew holds a key.
-fn one_tick(
-    random: &mut Random,
-    options: Options,
-    tick: u64,
-    seat: Seat,
-    held: u8,
-    air: &mut Vec<Flight>,
-    moves: &mut Vec<Move>,
-) -> Result<u8, AllocError> {
-    let changes = random.below(8) == 0;
-    let next = (random.below(16) & 15) as u8;
-    let input = if changes { next } else { held };
-    deliver(tick, seat, air, moves)?;
-    let act = Act::Tick(input);
-    moves.push(Move { seat, act })?;
-    let flight = Flight {
-        due: tick,
-        seat: facing(seat),
-        number: tick as usize,
-    };
-    send(random, options, tick >= options.ticks, flight, air)?;
-    Ok(input)
+    // What the radio does with a packet: it is lost, or comes once or twice, each time after a delay of its own.
+    fn send(&mut self, good: bool, flight: Flight) -> Result<(), AllocError> {
+        let lost = self.random.below(256) < self.options.loss;
+        let twice = self.random.below(256) < self.options.twice;
+        let most = self.options.delay.saturating_sub(1);
+        let late = [self.random.below(most), self.random.below(most)];
+        let (delays, times) = match (good, lost, twice) {
+            (true, _, _) => ([0, 0], 1),
+            (false, true, _) => (late, 0),
+            (false, false, false) => (late, 1),
+            (false, false, true) => (late, 2),
+        };
+        for delay in delays.iter().take(times) {
+            let due = flight.due.saturating_add(2).saturating_add(*delay);
+            self.air.push(Flight { due, ..flight })?;
+        }
+        Ok(())
+    }
+
+    // The packets that come to a machine now.
+    fn deliver(&mut self, tick: u64, seat: Seat) -> Result<(), AllocError> {
+        for flight in self.air.iter() {
+            if flight.due == tick && flight.seat == seat {
+                let act = Act::Deliver(flight.number);
+                self.moves.push(Move { seat, act })?;
+            }
+        }
+        Ok(())
+    }
+
+    // One machine's tick: what comes, the tick, and its packet. An input is held for some ticks, as a crew holds a key.
+    fn tick(&mut self, tick: u64, seat: Seat, held: u8) -> anyhow::Result<u8> {
+        let changes = self.random.below(8) == 0;
+        let next = u8::try_from(self.random.below(16))?;
+        let input = if changes { next } else { held };
+        self.deliver(tick, seat)?;
+        let act = Act::Tick(input);
+        self.moves.push(Move { seat, act })?;
+        let flight = Flight {
+            due: tick,
+            seat: seat.facing(),
+            number: usize::try_from(tick)?,
+        };
+        self.send(tick >= self.options.ticks, flight)?;
+        Ok(input)
+    }
 }
 
 // All moves of a game.
-fn make_moves(heap: Global, options: Options) -> Result<Vec<Move>, AllocError> {
-    let mut random = Random(options.seed);
-    let mut moves = Vec::new(heap);
-    let mut air = Vec::new(heap);
+fn make_moves(heap: Global, options: Options) -> anyhow::Result<Vec<Move>> {
+    let mut radio = Radio::new(heap, options);
     let mut left = 0;
     let mut right = 0;
     for tick in 0..options.ticks.saturating_add(GOOD) {
-        left = one_tick(
-            &mut random,
-            options,
-            tick,
-            Seat::Left,
-            left,
-            &mut air,
-            &mut moves,
-        )?;
-        right = one_tick(
-            &mut random,
-            options,
-            tick,
-            Seat::Right,
-            right,
-            &mut air,
-            &mut moves,
-        )?;
+        left = radio.tick(tick, Seat::Left, left)?;
+        right = radio.tick(tick, Seat::Right, right)?;
     }
-    Ok(moves)
+    Ok(radio.moves)
+}
+
+// The memory that is lent to a machine.
+#[derive(Drop)]
+struct Memory {
+    inputs: Vec<u8>,
+    states: Vec<u8>,
+}
+
+impl Memory {
+    fn new(heap: Global) -> Result<Memory, AllocError> {
+        Ok(Memory {
+            inputs: vec![in heap; 0u8; INPUTS]?,
+            states: vec![in heap; 0u8; STATES]?,
+        })
+    }
 }
 
 // What a machine came to.
-fn print_side(
-    rt: &HostRuntime,
-    name: &str,
-    p: &Peer,
-    states: &[u8],
-    tally: Tally,
-) -> anyhow::Result<()> {
-    match status(p, states) {
+fn print_side(rt: &HostRuntime, name: &str, side: Played, states: &[u8]) -> anyhow::Result<()> {
+    match status(&side.peer, states) {
         Ok(s) => {
+            let tally = side.tally;
             print!(rt;
                 "{name} beat {} sure {} points {} {} ",
                 s.frames, s.confirmed, s.score.left, s.score.right
@@ -197,55 +189,36 @@ fn print_side(
                 "lost {} refused {} played {} again {}",
                 tally.lost, tally.refused, tally.played, tally.again
             )?;
-            Ok(())
         }
-        Err(f) => {
-            println!(rt; "refused {} at {}", f.number(), f.place())?;
-            Ok(())
-        }
+        Err(f) => println!(rt; "refused {} at {}", f.number(), f.place())?,
     }
+    Ok(())
 }
 
-// The first frame of so many in which two rows of inputs differ.
+// The inputs of seat 0 and of seat 1 in the first frames, as a machine has them; none where they do not lie there.
+fn inputs_at(seat: Seat, inputs: &[u8], frames: usize) -> (&[u8], &[u8]) {
+    let own = inputs.get(..frames).unwrap_or(&[]);
+    let other = inputs
+        .get(INPUTS / 2..(INPUTS / 2).saturating_add(frames))
+        .unwrap_or(&[]);
+    seat.in_order(own, other)
+}
+
+// The first frame in which two rows of inputs differ.
 fn difference(xs: &[u8], ys: &[u8]) -> Option<usize> {
-    for (k, (x, y)) in xs.iter().zip(ys.iter()).enumerate() {
-        if *x != *y {
-            return Some(k);
-        }
-    }
-    None
-}
-
-// So many bytes from a place on, or none where they do not lie there.
-fn part(xs: &[u8], from: usize, count: usize) -> &[u8] {
-    match xs.get(from..from.saturating_add(count)) {
-        Some(found) => found,
-        None => &[],
-    }
+    xs.iter().zip(ys).position(|(x, y)| x != y)
 }
 
 // Whether both machines have the same inputs and come to the same state, in the frames that are confirmed at both.
 fn print_agreement(rt: &HostRuntime, both: Both, left: &[u8], right: &[u8]) -> anyhow::Result<()> {
-    let sure = both
-        .left
-        .own
-        .min(both.left.other)
-        .min(both.right.own)
-        .min(both.right.other);
-    let a = part(left, 0, sure);
-    let b = part(right, INPUTS / 2, sure);
-    let c = part(left, INPUTS / 2, sure);
-    let d = part(right, 0, sure);
-    let same_state = play(a, c).state == play(b, d).state;
-    match (difference(a, b), difference(c, d)) {
-        (None, None) => {
-            if same_state && a.len() == sure && b.len() == sure {
-                println!(rt; "same {sure}")?;
-            } else {
-                println!(rt; "different at {sure}")?;
-            }
-        }
-        (Some(k), _) | (_, Some(k)) => println!(rt; "different at {k}")?,
+    let sure = both.left.peer.confirmed().min(both.right.peer.confirmed());
+    let (a, b) = inputs_at(Seat::Left, left, sure);
+    let (c, d) = inputs_at(Seat::Right, right, sure);
+    let whole = a.len() == sure && c.len() == sure;
+    match difference(a, c).or(difference(b, d)) {
+        None if whole && play(a, b).state == play(c, d).state => println!(rt; "same {sure}")?,
+        None => println!(rt; "different at {sure}")?,
+        Some(frame) => println!(rt; "different at {frame}")?,
     }
     Ok(())
 }
@@ -256,76 +229,51 @@ fn run_one(rt: &HostRuntime, o: Options) -> anyhow::Result<()> {
         o.seed, o.window, o.ticks, o.loss, o.twice, o.delay
     )?;
     let moves = make_moves(rt.alloc(), o)?;
-    let mut left_inputs = vec![in rt.alloc(); 0u8; INPUTS]?;
-    let mut right_inputs = vec![in rt.alloc(); 0u8; INPUTS]?;
-    let mut left_states = vec![in rt.alloc(); 0u8; STATES]?;
-    let mut right_states = vec![in rt.alloc(); 0u8; STATES]?;
+    let mut left = Memory::new(rt.alloc())?;
+    let mut right = Memory::new(rt.alloc())?;
     let picture = vec![in rt.alloc(); 0u8; PICTURE]?;
     let both = match play_moves(
         rt.alloc(),
         o.window,
-        left_inputs.as_mut_slice(),
-        left_states.as_mut_slice(),
-        right_inputs.as_mut_slice(),
-        right_states.as_mut_slice(),
+        left.inputs.as_mut_slice(),
+        left.states.as_mut_slice(),
+        right.inputs.as_mut_slice(),
+        right.states.as_mut_slice(),
         picture.as_slice(),
         moves.as_slice(),
     ) {
         Ok(both) => both,
         Err(Unplayed::Refused(f)) => {
             println!(rt; "refused {} at {}", f.number(), f.place())?;
-            return Err(anyhow!("refused"));
+            bail!("refused");
         }
-        Err(Unplayed::NoMemory) => return Err(anyhow!("radio: no memory")),
+        Err(Unplayed::NoMemory) => bail!("radio: no memory"),
     };
-    print_side(
-        rt,
-        "left",
-        &both.left,
-        left_states.as_slice(),
-        both.left_tally,
-    )?;
-    print_side(
-        rt,
-        "right",
-        &both.right,
-        right_states.as_slice(),
-        both.right_tally,
-    )?;
-    print_agreement(rt, both, left_inputs.as_slice(), right_inputs.as_slice())
+    print_side(rt, "left", both.left, left.states.as_slice())?;
+    print_side(rt, "right", both.right, right.states.as_slice())?;
+    print_agreement(rt, both, left.inputs.as_slice(), right.inputs.as_slice())
 }
 
-// The numbers of the command line.
-fn numbers(rt: &HostRuntime) -> anyhow::Result<Vec<u64>> {
+// The rows of the command line.
+fn rows(rt: &HostRuntime) -> anyhow::Result<Vec<Options>> {
     let mut words = Vec::new(rt.alloc());
     for word in env::args(rt)?.skip(1) {
-        match word.as_str().parse::<u64>() {
-            Ok(n) => words.push(n)?,
-            Err(_) => return Err(anyhow!(USAGE)),
-        }
+        words.push(word.as_str().parse::<u64>().map_err(|_| anyhow!(USAGE))?)?;
     }
-    Ok(words)
+    let mut rows = Vec::new(rt.alloc());
+    for row in words.as_slice().chunks(6) {
+        rows.push(Options::try_from(row)?)?;
+    }
+    Ok(rows)
 }
 
 fn run(rt: &HostRuntime) -> anyhow::Result<()> {
-    let words = numbers(rt)?;
-    if words.is_empty() || words.len() % 6 != 0 {
-        return Err(anyhow!(USAGE));
+    let rows = rows(rt)?;
+    if rows.is_empty() {
+        bail!(USAGE);
     }
-    for row in words.as_slice().chunks(6) {
-        if let [seed, window, ticks, loss, twice, delay] = row {
-            run_one(
-                rt,
-                Options {
-                    seed: *seed,
-                    window: *window as usize,
-                    ticks: *ticks,
-                    loss: *loss,
-                    twice: *twice,
-                    delay: *delay,
-                },
-            )?;
-        }
+    for row in rows.iter() {
+        run_one(rt, *row)?;
     }
     Ok(())
 }
