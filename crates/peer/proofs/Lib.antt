@@ -1,4 +1,3 @@
 pub mod Logs
-pub mod Happens
 pub mod Rowed
 pub mod Shows

@@ -1,13 +1,13 @@
 -- The log in lent memory, and what is written to it. Assumes nothing.
-use Rattle.std.proofs.Common.{◌≡◌, ℕ, ◌+◌, ◌-◌, ◌<◌, ◌≤◌, min, true, false, cond, ltb, List, [], ◌++◌, length, get_or, take, drop, sym, ap, ◌∙◌, inl, inr, arith, length-drop, length-take, le-ltb, lt-ltb}
+use Rattle.std.proofs.Common.{◌≡◌, ℕ, ◌+◌, ◌-◌, ◌<◌, ◌≤◌, min, true, false, cond, ◌&&◌, ltb, List, [], ◌++◌, length, get_or, take, drop, sym, ap, ◌∙◌, inl, inr, arith, length-drop, length-take, le-ltb, lt-ltb}
 use borrow.Rule.Slice.PartMut.{put_mid}
-use Rattle.std.proofs.lemmas.List.{places, take-take, take_all, drop-take, drop-append-le, drop_all, length-take-le, append-nil}
+use Rattle.std.proofs.lemmas.List.{places, take-take, take_all, drop-take, drop-append-le, length-take-le, append-nil}
 use Rattle.std.proofs.lemmas.Slice.{take-put_mid}
 use Rattle.std.proofs.lemmas.Bool.{cases_lt}
 use Rattle.packet.specs.Wire.{Message}
 use Rattle.peer.specs.declared.numbers.Peer.{Peer}
 use Rattle.peer.specs.Lent.{Long, log_of}
-use Rattle.peer.specs.Peers.{Log, new_log, joined}
+use Rattle.peer.specs.Peers.{Log, new_log, goes_on, joined}
 
 pub log_same : (x x' y y' : List ℕ) (a a' : ℕ) → x ≡ x' → y ≡ y' → a ≡ a' → ◌≡◌ {A = Log} (record { own = x; other = y; acked = a }) (record { own = x'; other = y'; acked = a' })
 log_same x x' y y' a a' e f g = cc
@@ -24,6 +24,12 @@ own_long p inputs h = let few = p.few.0 in length-take-le p.own inputs (omega ar
 pub other_long : (p : Peer) (inputs : List ℕ) → Long inputs → length (log_of p inputs).other ≡ p.other
 unfolding log_of
 other_long p inputs h = let few = p.few.1 in length-take-le p.other (drop 1000000 inputs) (simp length-drop (omega arith))
+
+-- whether a tick plays, by the numbers
+pub goes_on_is : (p : Peer) (inputs : List ℕ) → Long inputs → goes_on p.window (log_of p inputs) ≡ (ltb p.own 1000000 && ltb p.own (p.other + p.window))
+goes_on_is p inputs l =
+    ap (λ n. ltb n 1000000 && ltb n (length (log_of p inputs).other + p.window)) (own_long p inputs l)
+    ∙ ap (λ m. ltb p.own 1000000 && ltb p.own (m + p.window)) (other_long p inputs l)
 
 -- bytes that are not written to stay
 pub get_or_put_mid_other : (a k : ℕ) (xs ys : List ℕ) (i : ℕ) → length ys ≡ k → a + k ≤ length xs → ((a ≤ i) × (i < a + k) → ⊥) → get_or (put_mid a k xs ys) i 0 ≡ get_or xs i 0
@@ -49,14 +55,6 @@ joined_is xs m b e =
     elim (cases_lt (length xs) m.first) [
       | inl h ↦ let f : ltb (length xs) m.first ≡ true = lt-ltb _ _ h in simp (sym e, f, append-nil)
       | inr h ↦ let f : ltb (length xs) m.first ≡ false = le-ltb _ _ h in simp (sym e, f)
-    ]
-
--- dropping more than there is
-pub drop_most : (k : ℕ) (xs : List ℕ) → drop (min k (length xs)) xs ≡ drop k xs
-drop_most k xs =
-    elim (cases_lt k (length xs)) [
-      | inl h ↦ let e : min k (length xs) ≡ k = omega arith in ap (λ n. drop n xs) e
-      | inr h ↦ let e : min k (length xs) ≡ length xs = omega arith in ap (λ n. drop n xs) e ∙ drop_all (length xs) xs (omega arith) ∙ sym (drop_all k xs h)
     ]
 
 -- the inputs that a packet has, as a part of the lent memory

@@ -3,6 +3,7 @@ use Rattle.std.proofs.Common.{◌≡◌, ℕ, zero, suc, ◌+◌, ◌-◌, ◌<�
 use Rattle.std.proofs.lemmas.List.{nil_from_length, get_or-take, get_or-drop, take_all, take_more, length-take-le}
 use Rattle.std.proofs.lemmas.Bool.{cases_lt}
 use Rattle.game.specs.Plain.{Game, plays}
+use Rattle.game.specs.Seats.{in_order}
 use Rattle.game.specs.declared.seat.Seat.{Seat}
 use Rattle.game.specs.declared.seat.Seat.TheVariants.{Left, Right}
 use Rattle.game.proofs.Plays.{plays_append}
@@ -33,6 +34,11 @@ after_none Right g inputs b = refl
 pub after_more : {S : Type 0} (g : Game S) (inputs : List ℕ) (b k : ℕ) → after g inputs b (k + 1) ≡ g.frame (after g inputs b k) (own_at inputs k) (other_at b inputs k)
 unfolding state_at
 after_more g inputs b k = rw add-one
+
+-- the inputs of a frame, seat 0's first
+pub seated_frame : {S : Type 0} (seat : Seat) (g : Game S) (s : S) (own other : ℕ) → g.frame s (in_order seat own other).0 (in_order seat own other).1 ≡ (seated seat g).frame s own other
+seated_frame Left g s own other = refl
+seated_frame Right g s own other = refl
 
 plays_at : {S : Type 0} (g : Game S) (xs ys : List ℕ) (k : ℕ) → k ≤ length xs → k ≤ length ys → plays g g.start (take k xs) (take k ys) ≡ state_at g (λ i. get_or xs i 0) (λ i. get_or ys i 0) k
 unfolding plays state_at

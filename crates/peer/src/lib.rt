@@ -5,6 +5,7 @@
 
 pub mod events;
 pub mod log;
+pub mod memory;
 pub mod numbers;
 pub mod outcome;
 pub mod outgoing;

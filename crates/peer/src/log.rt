@@ -16,15 +16,8 @@ pub fn other_input(inputs: &[u8], came: usize, frame: usize) -> u8
     requires { (Long inputs.now) × ((came ≤ 1000000) × (frame < 1000000)) }
     ensures { result ≡ other_at came inputs.now frame }
 {
-    let there = frame < came;
-    let some = 0 < came;
-    if there {
-        inputs[HALF + frame]
-    } else if some {
-        inputs[HALF + (came - 1)]
-    } else {
-        0
-    }
+    let other = &inputs[HALF..HALF + came];
+    other.get(frame).or(other.last()).copied().unwrap_or(0)
 }
 
 // One input more of its own. No other byte changes.
@@ -39,9 +32,8 @@ pub fn push_own(p: &mut Peer, inputs: &mut [u8], input: u8)
     ensures log { log_of p.new inputs.new ≡ with_own (log_of p.old inputs.old) input }
     ensures untouched { Untouched p.old inputs.old p.new inputs.new }
 {
-    let at = p.own;
-    inputs[at] = input;
-    p.own = at + 1;
+    inputs[p.own] = input;
+    p.own += 1;
 }
 
 // The part of a packet's inputs that is new to a peer which has so many, if it joins on.
@@ -50,13 +42,10 @@ pub fn fresh(came: usize, first: usize, inputs: &[u8]) -> &[u8]
     ensures value { result.now ≡ (if nat_lt came first then [] else drop (came - first) inputs.now) }
     ensures fits { came + length result.now ≤ 1000000 }
 {
-    let end = inputs.len();
-    let gap = came < first;
-    if gap {
-        return &inputs[end..end];
-    }
-    let known = (came - first).min(end);
-    &inputs[known..end]
+    let Some(known) = came.checked_sub(first) else {
+        return &[];
+    };
+    inputs.get(known..).unwrap_or(&[])
 }
 
 // Takes in a packet's inputs and its acknowledgement. Of inputs that came before, the first that came count.
@@ -71,6 +60,7 @@ pub fn join(p: &mut Peer, inputs: &mut [u8], packet: Packet)
     ensures log { log_of p.new inputs.new ≡ heard (log_of p.old inputs.old) (Ok (message_of packet.entry)) }
     ensures untouched { Untouched p.old inputs.old p.new inputs.new }
 {
+    // The check proves that these casts lose nothing: `try_from` would bring errors that cannot come.
     let new = fresh(p.other, packet.first as usize, packet.inputs);
     let at = HALF + p.other;
     inputs[at..at + new.len()].copy_from_slice(new);

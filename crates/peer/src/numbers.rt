@@ -1,4 +1,4 @@
-// A peer's numbers. Its inputs lie in lent memory.
+// A peer's numbers. Its inputs lie in memory that is lent anew at each call, so they are a parameter beside it.
 ghost use Rattle.std.specs.Prelude.{◌≡◌, ◌+◌, ◌≤◌, min, ◌&&◌, Ok, Err, IfOk, MatchResult, nat_lt};
 ghost use Rattle.peer.specs.Windows.{window_checked};
 

@@ -5,24 +5,19 @@ ghost use Rattle.peer.specs.declared.outcome.Refusal.TheVariants.{Inputs};
 ghost use Rattle.peer.specs.Lent.{Long, log_of};
 ghost use Rattle.peer.specs.Peers.{sends};
 
-use crate::log::HALF;
+use crate::memory::check_inputs;
 use crate::numbers::Peer;
 use crate::outcome::Refusal;
-use packet::Packet;
-
-// As many inputs as a packet has at most.
-const MOST_INPUTS: usize = 120;
+use packet::{MOST_INPUTS, Packet};
 
 // The packet that a peer sends after a tick, also after one that was lost. Its inputs are a part of the lent memory.
 pub fn outgoing<'a>(p: &Peer, inputs: &'a [u8]) -> Result<Packet<'a>, Refusal>
     ensures { MatchResult result (λ k. Long inputs.now × (message_of k ≡ sends (log_of p.now inputs.now))) (λ f. (f ≡ Inputs) × (length inputs.now < 2000000)) }
 {
-    let short = inputs.len() < 2 * HALF;
-    if short {
-        return Err(Refusal::Inputs);
-    }
+    check_inputs(inputs)?;
     let from = p.acked;
-    let to = p.own.min(from + MOST_INPUTS);
+    let to = p.own.min(from + usize::from(MOST_INPUTS));
+    // The check proves that these casts lose nothing: `try_from` would bring errors that cannot come.
     Ok(Packet {
         first: from as u32,
         ack: p.other as u32,

@@ -1,19 +1,12 @@
 use Rattle.std.proofs.Common.{take, refl, ap, arith}
-use Rattle.std.proofs.lemmas.List.{get_or-set_other, take_more_set, drop-set-lt}
+use Rattle.std.proofs.lemmas.List.{take_more_set, drop-set-lt}
 use Rattle.peer.specs.Lent.{log_of}
 use Rattle.peer.proofs.Logs.{log_same}
 use Rattle.peer.proofs.log.push_own.Goals as goal
 
-pub returns : goal.returns
+pub returns-clause-log : goal.returns-clause-log
 unfolding log_of
-returns c =
+returns-clause-log c =
     let p = c.args.p.now in
     let xs = c.args.inputs.now in
-    record {
-      window = refl;
-      seat = refl;
-      own = refl;
-      other = refl;
-      log = log_same _ _ _ _ _ _ (take_more_set xs p.own c.args.input (omega arith)) (ap (take p.other) (drop-set-lt 1000000 xs p.own c.args.input (omega arith))) refl;
-      untouched = λ i no _. get_or-set_other xs p.own i c.args.input 0 (λ e. no (omega arith, omega arith));
-    }
+    log_same _ _ _ _ _ _ (take_more_set xs p.own c.args.input (omega arith)) (ap (take p.other) (drop-set-lt 1000000 xs p.own c.args.input (omega arith))) refl

@@ -12,7 +12,7 @@ returns c =
     let few = p.few in
     let made = p.made in
     let mk : List ℕ → ℕ → Message = λ is a. record { first = p.acked; inputs = is; ack = a } in (
-      c.if-short.false,
-      ap (λ is. mk is p.other) (part_sent xs p.own p.acked c.min-to.result made (omega arith) c.min-to.ensures)
-          ∙ ap (mk _) (sym (other_long p xs c.if-short.false)),
+      c.in_ok-check_inputs.ensures,
+      ap (λ is. mk is p.other) (part_sent xs p.own p.acked c.min-to.result made (omega arith) (omega (arith, c.min-to.ensures, c.from.ensures)))
+          ∙ ap (mk _) (sym (other_long p xs c.in_ok-check_inputs.ensures)),
     )

@@ -2,7 +2,7 @@ use Rattle.std.proofs.Common.{◌≡◌, true, false, length, sym, refl, ap, ◌
 use Rattle.rollback.specs.declared.outcome.Outcome.TheVariants.{Taken}
 use Rattle.peer.specs.Lent.{log_of}
 use Rattle.peer.specs.Peers.{tick, goes_on}
-use Rattle.peer.proofs.Happens.{goes_on_is}
+use Rattle.peer.proofs.Logs.{goes_on_is}
 use Rattle.rollback.proofs.Happens.{checked_room, checked_short, tick_refused, tick_unfit, tick_lost, tick_taken}
 use Rattle.rollback.proofs.Unmoved.{unmoved, refused_taken, lost_taken, taken_taken}
 use Rattle.rollback.proofs.events.tick.Goals as goal

@@ -1,0 +1,29 @@
+// Lent memory, as each call tests it: it is lent anew each time, so no type can keep that it is long enough.
+ghost use Rattle.std.specs.Prelude.{◌≡◌, ◌+◌, ◌*◌, ◌<◌, ◌≤◌, length, MatchResult};
+ghost use Rattle.peer.specs.declared.outcome.Refusal.TheVariants.{Inputs, States};
+ghost use Rattle.peer.specs.Lent.{Long};
+
+use crate::log::HALF;
+use crate::outcome::Refusal;
+use game::saved::STATE_BYTES;
+
+// Whether the inputs of both seats have room.
+pub fn check_inputs(inputs: &[u8]) -> Result<(), Refusal>
+    ensures { MatchResult result (λ _. Long inputs.now) (λ f. (f ≡ Inputs) × (length inputs.now < 2000000)) }
+{
+    if inputs.len() < 2 * HALF {
+        return Err(Refusal::Inputs);
+    }
+    Ok(())
+}
+
+// Whether one state more than the window has room.
+pub fn check_states(window: usize, states: &[u8]) -> Result<(), Refusal>
+    requires { window ≤ 60 }
+    ensures { MatchResult result (λ _. (window + 1) * 64 ≤ length states.now) (λ f. (f ≡ States) × (length states.now < (window + 1) * 64)) }
+{
+    if states.len() < (window + 1) * STATE_BYTES {
+        return Err(Refusal::States);
+    }
+    Ok(())
+}
