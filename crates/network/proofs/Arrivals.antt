@@ -1,13 +1,14 @@
 -- A packet with all that is not acknowledged, and what its arrival brings. Assumes nothing.
-use Rattle.std.proofs.Common.{◌≡◌, ℕ, ◌+◌, ◌<◌, ◌≤◌, Bool, List, [], ◌∷◌, ◌++◌, length, get_or, Ok, sym, refl, ap, ◌∙◌, subst, arith}
+use Rattle.std.proofs.Common.{◌≡◌, ℕ, ◌<◌, ◌≤◌, Bool, List, [], ◌∷◌, ◌++◌, length, get_or, Ok, sym, refl, ap, ◌∙◌, subst, arith}
 use Rattle.std.proofs.ByRecursion.{All-get_or}
 use Rattle.std.proofs.lemmas.List.Prefix.{front_reads}
 use Rattle.std.proofs.lemmas.List.{get_or_push, length_push}
+use Rattle.game.specs.Seats.{facing}
 use Rattle.game.specs.declared.seat.Seat.{Seat}
 use Rattle.game.specs.declared.seat.Seat.TheVariants.{Left, Right}
 use Rattle.packet.specs.Wire.{Message, message_bytes, reading}
 use Rattle.peer.specs.Peers.{Log, arrival, joined, heard, event}
-use Rattle.network.specs.Network.{Network, Turn, send, deliver, facing, peer_at, packets_to, with_peer, with_packet, written, handed, turn, turns, new_network, network}
+use Rattle.network.specs.Network.{Network, Turn, send, deliver, peer_at, packets_to, with_peer, with_packet, written, handed, turn, turns, new_network, network}
 use Rattle.network.specs.Promise.{Narrow, Came, BothSure}
 use Rattle.network.proofs.Beginnings.{begins_length}
 use Rattle.network.proofs.OnePeer.{Grows}

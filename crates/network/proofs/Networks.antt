@@ -3,11 +3,12 @@ use Rattle.std.proofs.Common.{◌≡◌, ℕ, Bool, List, [], ◌∷◌, ◌++�
 use Rattle.std.specs.List.{AllByRecursion}
 use Rattle.std.proofs.ByRecursion.{All-weaker}
 use Rattle.game.specs.Plain.{plays}
+use Rattle.game.specs.Seats.{facing}
 use Rattle.game.specs.declared.seat.Seat.{Seat}
 use Rattle.game.specs.declared.seat.Seat.TheVariants.{Left, Right}
 use Rattle.packet.specs.Wire.{Message, message_bytes, reading}
 use Rattle.peer.specs.Peers.{Log, Event, arrival, new_log, event, confirmed_at}
-use Rattle.network.specs.Network.{Network, Turn, tick, send, deliver, facing, peer_at, packets_to, with_peer, with_packet, written, handed, turn, turns, new_network, network}
+use Rattle.network.specs.Network.{Network, Turn, tick, send, deliver, peer_at, packets_to, with_peer, with_packet, written, handed, turn, turns, new_network, network}
 use Rattle.network.specs.Promise.{Narrow, SameInputs, OneGame, NoneRefused}
 use Rattle.network.proofs.Beginnings.{begins_refl, begins_take}
 use Rattle.network.proofs.OnePeer.{event_grows}

@@ -1,11 +1,12 @@
 -- Rows of turns: what happens at each seat. Assumes nothing.
 use Rattle.std.proofs.Common.{◌≡◌, ℕ, zero, suc, ◌+◌, ◌<◌, ◌≤◌, Bool, List, [], ◌∷◌, ◌++◌, length, get_or, sym, refl, ap, ◌∙◌, subst, arith}
 use Rattle.std.specs.List.{AllByRecursion}
+use Rattle.game.specs.Seats.{facing}
 use Rattle.game.specs.declared.seat.Seat.{Seat}
 use Rattle.game.specs.declared.seat.Seat.TheVariants.{Left, Right}
 use Rattle.packet.specs.Wire.{Message, message_bytes}
 use Rattle.peer.specs.Peers.{Log, Event, arrival, new_log, event, run}
-use Rattle.network.specs.Network.{Network, Turn, tick, send, deliver, facing, peer_at, packets_to, with_peer, with_packet, written, handed, turn, turns, new_network}
+use Rattle.network.specs.Network.{Network, Turn, tick, send, deliver, peer_at, packets_to, with_peer, with_packet, written, handed, turn, turns, new_network}
 use Rattle.network.specs.Promise.{Begins, PeersRun, NotFar}
 use Rattle.network.proofs.Beginnings.{begins_refl, begins_more, begins_trans}
 use Rattle.network.proofs.OnePeer.{Grows, run_grows, near_run}

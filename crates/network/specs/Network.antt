@@ -1,6 +1,7 @@
 -- Two peers, and all packets that they ever wrote, any of which may come at any time, again and again, or never.
 -- Assumes nothing: these are definitions.
 use Rattle.std.specs.Prelude.{ℕ, zero, suc, min, Bool, List, [], ◌∷◌, ◌++◌, length, take, drop}
+pub use Rattle.game.specs.Seats.{facing}
 use Rattle.game.specs.declared.seat.Seat.{Seat}
 use Rattle.game.specs.declared.seat.Seat.TheVariants.{Left, Right}
 use Rattle.packet.specs.Wire.{Message, message_bytes}
@@ -17,11 +18,6 @@ abbrev pub new_network : Network
 new_network = record { left = new_log; right = new_log; to_left = []; to_right = [] }
 
 -- ---- by seats
-
--- the seat across
-abbrev pub facing : Seat → Seat
-facing Left = Right
-facing Right = Left
 
 -- the peer at a seat
 abbrev pub peer_at : Network → Seat → Log

@@ -3,11 +3,12 @@
 use Rattle.std.specs.Prelude.{◌≡◌, ℕ, ◌+◌, ◌≤◌, Bool, true, List, ◌∷◌, ◌++◌, length, take, Ok}
 use Rattle.std.specs.List.{AllByRecursion}
 use Rattle.game.specs.Plain.{Game}
+use Rattle.game.specs.Seats.{facing}
 use Rattle.game.specs.declared.seat.Seat.{Seat}
 use Rattle.game.specs.declared.seat.Seat.TheVariants.{Left, Right}
 use Rattle.packet.specs.Wire.{message_bytes, reading}
 use Rattle.peer.specs.Peers.{Log, Event, new_log, event, run, shows, predicted, confirmed, confirmed_at, sends}
-use Rattle.network.specs.Network.{Network, Turn, send, deliver, facing, peer_at, packets_to, written, network}
+use Rattle.network.specs.Network.{Network, Turn, send, deliver, peer_at, packets_to, written, network}
 
 -- a list is the beginning of another
 abbrev pub Begins : {A : Type 0} → List A → List A → Type 0
