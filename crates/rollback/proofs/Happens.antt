@@ -1,17 +1,15 @@
 -- What events do and what is said of them, case by case. Assumes nothing.
-use Rattle.std.proofs.Common.{◌≡◌, ℕ, ◌+◌, ◌*◌, ◌≤◌, Bool, true, false, ◌&&◌, ltb, List, length, Ok, Err, Result, sym, ap, ◌∙◌, arith}
+use Rattle.std.proofs.Common.{◌≡◌, ℕ, ◌+◌, ◌*◌, ◌≤◌, Bool, true, false, List, length, Ok, Err, Result, sym, ap, ◌∙◌, arith}
 use Rattle.std.proofs.lemmas.Bool.Decides.{nat_tests}
 use Rattle.packet.specs.Wire.{Message, reading}
 use Rattle.packet.specs.declared.fault.Fault.{Fault}
-use Rattle.peer.specs.declared.numbers.Peer.{Peer}
 use Rattle.peer.specs.declared.outcome.Refusal.{Refusal}
 use Rattle.peer.specs.declared.outcome.Refusal.TheVariants.{Input}
 use Rattle.rollback.specs.declared.outcome.Outcome.TheVariants.{Taken, Lost, Refused}
-use Rattle.peer.specs.Lent.{Long, log_of, with_own}
+use Rattle.peer.specs.Lent.{with_own}
 use Rattle.peer.specs.Peers.{Log, tick, arrival, goes_on, heard, event}
 use Rattle.peer.specs.Windows.{window_checked}
 use Rattle.rollback.specs.Said.{memory_checked, begin_checked, said_tick, said_read, said_arrival}
-use Rattle.peer.proofs.Logs.{own_long, other_long}
 
 -- memory that is not refused is long enough
 pub checked_room : (window inputs states : ℕ) → Ok tt ≡ memory_checked window inputs states → (2000000 ≤ inputs) × ((window + 1) * 64 ≤ states)
@@ -22,12 +20,6 @@ pub checked_short : (window inputs states : ℕ) (f : Refusal) → Err f ≡ mem
 checked_short window inputs states f e h k = grind (arith, nat_tests)
 
 -- ---- ticks
-
--- whether a tick plays, by the numbers
-pub goes_on_is : (p : Peer) (inputs : List ℕ) → Long inputs → goes_on p.window (log_of p inputs) ≡ (ltb p.own 1000000 && ltb p.own (p.other + p.window))
-goes_on_is p inputs l =
-    ap (λ n. ltb n 1000000 && ltb n (length (log_of p inputs).other + p.window)) (own_long p inputs l)
-    ∙ ap (λ m. ltb p.own 1000000 && ltb p.own (m + p.window)) (other_long p inputs l)
 
 pub tick_refused : (fits : ℕ → Bool) (window inputs states : ℕ) (log : Log) (a : ℕ) (f : Refusal) → Err f ≡ memory_checked window inputs states → Refused f ≡ said_tick fits window inputs states log a
 unfolding said_tick

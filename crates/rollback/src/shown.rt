@@ -4,16 +4,14 @@ ghost use Rattle.peer.specs.declared.outcome.Refusal.TheVariants.{States};
 ghost use Rattle.rollback.specs.Saved.{Shown};
 
 use crate::slots::{load_at, slot_of};
-use game::saved::{STATE_BYTES, SavedGame};
+use game::saved::SavedGame;
+use peer::memory::check_states;
 use peer::{Peer, Refusal};
 
 // Whatever the inputs are that the saved states stand for: the plain game with them, those that have not come predicted.
 pub fn shown<G: SavedGame>(p: &Peer, states: &[u8]) -> Result<G, Refusal>
     ensures { MatchResult result (λ s. ((p.now.window + 1) * 64 ≤ length states.now) × Shown G.saved p.now states.now (G.state s)) (λ f. (f ≡ States) × (length states.now < (p.now.window + 1) * 64)) }
 {
-    let few = states.len() < (p.window + 1) * STATE_BYTES;
-    if few {
-        return Err(Refusal::States);
-    }
+    check_states(p.window, states)?;
     Ok(load_at(states, slot_of(p, p.own)))
 }

@@ -11,7 +11,7 @@ returns g c =
     let p = c.args.p.now in
     let r = g.G.SavedGame.saved in
     let states = c.args.states.now in (
-      c.if-few.false,
+      c.in_ok-check_states.ensures,
       λ inputs long kept.
           c.load_at.ensures (after (seated p.seat r.game) inputs p.other p.own) (after_ok r g.met.G.SavedGame.lawful p.seat inputs p.other p.own)
           (ap (slot states) c.slot_of.ensures.value ∙ kept p.own (omega arith) (omega arith))
