@@ -1,5 +1,5 @@
 -- What drawing says and leaves, by the length of the lent picture. Assumes nothing.
-use Rattle.std.proofs.Common.{◌≡◌, ℕ, ◌≤◌, Bool, true, false, cond, List, ◌++◌, drop, Ok, Err, Result, refl, arith}
+use Rattle.std.proofs.Common.{◌≡◌, ℕ, ◌≤◌, Bool, true, false, cond, List, ◌++◌, drop, Ok, Result, refl, arith}
 use Rattle.std.proofs.lemmas.List.{drop_at}
 use Rattle.std.proofs.lemmas.Bool.Decides.{nat_tests}
 use Rattle.court.specs.declared.state.State.{State}
@@ -9,21 +9,13 @@ use Rattle.rollback.specs.Said.{begin_checked}
 use Rattle.rollback_session.specs.declared.refused.Refused.{Refused}
 use Rattle.rollback_session.specs.Refusals.{said_begun}
 
--- a test by the answer that it gave
-pub was_true : {E : Type 0} (b : Bool) (u : Unit {0}) (f : E) → ◌≡◌ {A = Result (Unit {0}) E} (Ok u) (cond b (Ok tt) (Err f)) → b ≡ true
-was_true true u f e = refl
-was_true false u f e = let z : ◌≡◌ {A = ℕ} 0 1 = cc in absurd (omega arith)
-
-pub was_false : {E : Type 0} (b : Bool) (f g : E) → ◌≡◌ {A = Result (Unit {0}) E} (Err g) (cond b (Ok tt) (Err f)) → b ≡ false
-was_false true f g e = let z : ◌≡◌ {A = ℕ} 0 1 = cc in absurd (omega arith)
-was_false false f g e = refl
-
 -- a session that begins has memory enough
 pub enough : (window inputs states picture : ℕ) → ◌≡◌ {A = Result (Unit {0}) Refused} (Ok tt) (said_begun (begin_checked window inputs states) picture) → (2000000 ≤ inputs) × (19200 ≤ picture)
 unfolding begin_checked
 enough window inputs states picture e = (grind (arith, nat_tests), grind (arith, nat_tests))
 
--- what lies behind a picture stays
-pub drawn_behind : (s : State) (pic : List ℕ) → drop 19200 (picture_of s ++ drop 19200 pic) ≡ drop 19200 pic
+-- what lies behind a picture stays, whether it was drawn or not
+pub drawn_behind : (s : State) (pic : List ℕ) (drawn : Bool) → drop 19200 (cond drawn (picture_of s ++ drop 19200 pic) pic) ≡ drop 19200 pic
 unfolding picture_of
-drawn_behind s pic = drop_at (picture_of s) (drop 19200 pic) 19200 (length_rows s 0 120)
+drawn_behind s pic true = drop_at (picture_of s) (drop 19200 pic) 19200 (length_rows s 0 120)
+drawn_behind s pic false = refl

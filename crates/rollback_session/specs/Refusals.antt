@@ -1,5 +1,6 @@
 -- How a session's refusals are told. Assumes nothing: these are definitions.
-use Rattle.std.specs.Prelude.{ℕ, ◌+◌, ◌*◌, cond, Ok, Err, Result, nat_lt}
+use Rattle.std.specs.Prelude.{ℕ, ◌+◌, ◌*◌, cond, List, ◌++◌, codes, Ok, Err, Result, nat_lt}
+use Rattle.std.specs.Fmt.{decimal}
 use Rattle.peer.specs.Said.{refusal_number, refusal_place}
 use Rattle.peer.specs.declared.numbers.Peer as numbers
 use Rattle.peer.specs.declared.outcome.Refusal.{Refusal}
@@ -17,6 +18,10 @@ abbrev pub refused_place : Refused → ℕ
 refused_place (Peer r) = refusal_place r
 refused_place Picture = 3
 refused_place (Event at) = at
+
+-- as people are told: "refused 4 at 6"
+abbrev pub refused_text : Refused → List ℕ
+refused_text f = codes "refused " ++ decimal (refused_number f) ++ codes " at " ++ decimal (refused_place f)
 
 -- what is said of a new session: first what the peer refuses, then the picture
 abbrev pub said_begun : Result (Unit {0}) Refusal → ℕ → Result (Unit {0}) Refused

@@ -40,16 +40,11 @@ pub fn check_lent(
 ) -> Result<(), Refused>
     ensures { result ≡ said_begun (begin_checked window (length inputs.now) (length states.now)) (length picture.now) }
 {
-    match rollback::events::check_begin(window, inputs, states) {
-        Ok(()) => {
-            let short = picture.len() < LENGTH;
-            if short {
-                return Err(Refused::Picture);
-            }
-            Ok(())
-        }
-        Err(refusal) => Err(Refused::Peer(refusal)),
+    rollback::events::check_begin(window, inputs, states)?;
+    if picture.len() < LENGTH {
+        return Err(Refused::Picture);
     }
+    Ok(())
 }
 
 // A new peer of the court's game, or why there is none. A refusal changes nothing.
@@ -65,13 +60,8 @@ pub fn begin(
     ensures behind { Behind 1 states.old states.new }
     ensures idle { is_err result ≡ true → states.new ≡ states.old }
 {
-    if let Err(refused) = check_lent(window, inputs, states, picture) {
-        return Err(refused);
-    }
-    match rollback::events::begin::<Held>(seat, window, inputs, states) {
-        Ok(p) => Ok(p),
-        Err(refusal) => Err(Refused::Peer(refusal)),
-    }
+    check_lent(window, inputs, states, picture)?;
+    Ok(rollback::events::begin::<Held>(seat, window, inputs, states)?)
 }
 
 // Carries an event out.
@@ -91,28 +81,19 @@ fn carry_out(p: &mut Peer, inputs: &mut [u8], states: &mut [u8], event: Happenin
 fn is_told(event: Happening, outcome: Outcome) -> bool
     ensures { result ≡ writes (event_of event.entry) outcome }
 {
-    match event {
-        Happening::Tick(_) => match outcome {
-            Outcome::Taken(_) | Outcome::Lost => true,
-            Outcome::Refused(_) => false,
-        },
-        Happening::Arrival(_) => false,
-    }
+    matches!(
+        (event, outcome),
+        (Happening::Tick(_), Outcome::Taken(_) | Outcome::Lost)
+    )
 }
 
-// Writes the packet that the peer sends, and hands back its length.
+// Writes the packet that the peer sends, and hands back its length. There is room for the longest.
 fn write_packet(p: &Peer, inputs: &[u8], out: &mut [u8; PACKET_LENGTH]) -> usize
     requires { Long inputs.now }
     ensures length { result ≡ message_length (sends (log_of p.now inputs.now)) }
     ensures bytes { out.new ≡ packet_over true (sends (log_of p.now inputs.now)) out.old }
 {
-    match outgoing(p, inputs) {
-        Ok(packet) => match packet.write(out) {
-            Ok(length) => length,
-            Err(_) => unreachable(),
-        },
-        Err(_) => unreachable(),
-    }
+    outgoing(p, inputs).unwrap().write(out).unwrap()
 }
 
 // One event. After a tick, also after one that is lost, the packet that the peer sends is written.
@@ -132,8 +113,7 @@ pub fn happen(
     ensures packet { out.new ≡ packet_over (writes (event_of event.entry) result.outcome) (sends (log_of p.new inputs.new)) out.old }
 {
     let outcome = carry_out(p, inputs, states, event);
-    let told = is_told(event, outcome);
-    let sent = if told {
+    let sent = if is_told(event, outcome) {
         Some(write_packet(p, inputs, out))
     } else {
         None
@@ -149,13 +129,8 @@ pub fn draw(p: &Peer, states: &[u8], picture: &mut [u8]) -> Result<(), Refused>
     ensures idle { is_err result ≡ true → picture.new ≡ picture.old }
     ensures row { (seat : At) (window : ℕ) (es : List Event) (inputs : List ℕ) → After seat window es (memory p.now inputs states.now) → is_ok result ≡ true → picture.new ≡ picture_of (shows court_game seat (log_after window es)) ++ drop 19200 picture.old }
 {
-    match shown::<Held>(p, states) {
-        Ok(held) => match picture::draw(held.0, picture) {
-            Ok(()) => Ok(()),
-            Err(picture::Refused::TooShort) => Err(Refused::Picture),
-        },
-        Err(refusal) => Err(Refused::Peer(refusal)),
-    }
+    let held: Held = shown(p, states)?;
+    Ok(picture::draw(held.0, picture)?)
 }
 
 // Where the peer stands.
@@ -163,12 +138,10 @@ pub fn status(p: &Peer, states: &[u8]) -> Result<Status, Refused>
     ensures answer { MatchResult result (λ _. (p.now.window + 1) * 64 ≤ length states.now) (λ f. (f ≡ Refused.Peer States) × (length states.now < (p.now.window + 1) * 64)) }
     ensures row { IfOk result (λ s. (seat : At) (window : ℕ) (es : List Event) (inputs : List ℕ) → After seat window es (memory p.now inputs states.now) → s ≡ status_of seat (log_after window es)) }
 {
-    match shown::<Held>(p, states) {
-        Ok(held) => Ok(Status {
-            frames: p.own,
-            confirmed: p.own.min(p.other),
-            score: held.0.state.score,
-        }),
-        Err(refusal) => Err(Refused::Peer(refusal)),
-    }
+    let held: Held = shown(p, states)?;
+    Ok(Status {
+        frames: p.own,
+        confirmed: p.own.min(p.other),
+        score: held.0.state.score,
+    })
 }

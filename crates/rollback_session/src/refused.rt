@@ -1,8 +1,11 @@
 // Why a session does not begin or does not go on.
-ghost use Rattle.std.specs.Prelude.{◌≡◌};
-ghost use Rattle.rollback_session.specs.Refusals.{refused_number, refused_place};
+ghost use Rattle.std.specs.Prelude.{◌≡◌, Some};
+ghost use Rattle.rollback_session.specs.Refusals.{refused_number, refused_place, refused_text};
+ghost use Rattle.rollback_session.specs.declared.refused.Refused.TheVariants.{Peer, Picture};
 
 use peer::Refusal;
+use std::error::Error;
+use std::fmt;
 
 #[derive(Clone, Copy, PartialEq, Eq, Debug)]
 pub enum Refused {
@@ -35,3 +38,31 @@ impl Refused {
         }
     }
 }
+
+impl From<Refusal> for Refused {
+    ghost from_gives = { λ refusal refused. refused ≡ Peer refusal };
+
+    fn from(refusal: Refusal) -> Refused {
+        Refused::Peer(refusal)
+    }
+}
+
+impl From<picture::Refused> for Refused {
+    ghost from_gives = { λ _ refused. refused ≡ Picture };
+
+    fn from(refused: picture::Refused) -> Refused {
+        match refused {
+            picture::Refused::TooShort => Refused::Picture,
+        }
+    }
+}
+
+impl fmt::Display for Refused {
+    ghost output = { λ refused. Some (refused_text refused) };
+
+    fn fmt<W: fmt::Write>(&self, f: &mut fmt::Formatter<W>) -> fmt::Result {
+        write!(f, "refused {} at {}", self.number(), self.place())
+    }
+}
+
+impl Error for Refused {}

@@ -1,7 +1,10 @@
 // Files of events for tests, and tests of reading them.
+use packet::Fault;
+use peer::Refusal;
 use rollback_session::file::{arrival_head, check_events, event_at};
 use rollback_session::{Happening, Refused};
-use std::alloc::{AllocError, Global};
+use std::alloc::{AllocError, AllocGlobal, Global};
+use std::process::Abort;
 use std::test::*;
 
 pub(crate) fn tick(file: &mut Vec<u8>, input: u8) -> Result<(), Fail> {
@@ -97,4 +100,18 @@ fn no_events(rt: HostRuntime) -> Result<(), Fail> {
         (4, 7)
     );
     Ok(())
+}
+
+// What people read of a refusal: its number and its place.
+fn check_text(rt: &(impl Abort + AllocGlobal), refused: Refused, text: &str) -> Result<(), Fail> {
+    assert_eq!(rt; format!(in rt.alloc(); "{refused}")?.as_str(), text);
+    Ok(())
+}
+
+#[test]
+fn refusals_as_text(rt: HostRuntime) -> Result<(), Fail> {
+    check_text(&rt, Refused::Event(1_234_567), "refused 4 at 1234567")?;
+    check_text(&rt, Refused::Picture, "refused 5 at 3")?;
+    check_text(&rt, Refused::from(Refusal::Window), "refused 5 at 0")?;
+    check_text(&rt, Refused::from(Refusal::Packet(Fault::Unmade)), "refused 3 at 6")
 }
