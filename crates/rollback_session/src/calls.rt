@@ -141,7 +141,7 @@ pub fn status(p: &Peer, states: &[u8]) -> Result<Status, Refused>
     let held: Held = shown(p, states)?;
     Ok(Status {
         frames: p.own,
-        confirmed: p.own.min(p.other),
+        confirmed: p.confirmed(),
         score: held.0.state.score,
     })
 }

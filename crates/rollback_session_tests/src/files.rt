@@ -113,5 +113,9 @@ fn refusals_as_text(rt: HostRuntime) -> Result<(), Fail> {
     check_text(&rt, Refused::Event(1_234_567), "refused 4 at 1234567")?;
     check_text(&rt, Refused::Picture, "refused 5 at 3")?;
     check_text(&rt, Refused::from(Refusal::Window), "refused 5 at 0")?;
-    check_text(&rt, Refused::from(Refusal::Packet(Fault::Unmade)), "refused 3 at 6")
+    check_text(
+        &rt,
+        Refused::from(Refusal::Packet(Fault::Unmade)),
+        "refused 3 at 6",
+    )
 }
