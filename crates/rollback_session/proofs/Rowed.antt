@@ -8,7 +8,7 @@ use Rattle.rollback.specs.Saved.{Begun, Happened}
 use Rattle.rollback.proofs.Rowed.{stands_begun, stands_more}
 use Rattle.rollback_session.specs.Rows.{After, log_after}
 
-run_push : (fits : ℕ → Bool) (window : ℕ) (log : Log) (es : List Event) (e : Event) → run fits window log (es ++ e ∷ []) ≡ event fits window (run fits window log es) e
+pub run_push : (fits : ℕ → Bool) (window : ℕ) (log : Log) (es : List Event) (e : Event) → run fits window log (es ++ e ∷ []) ≡ event fits window (run fits window log es) e
 unfolding run
 run_push fits window log [] e = refl
 run_push fits window log (d ∷ es) e = run_push fits window (event fits window log d) es e

@@ -2,17 +2,8 @@
 use Rattle.std.proofs.Common.{◌≡◌, ℕ, ◌≤◌, Bool, true, false, cond, Ok, Err, Result, refl, arith}
 use Rattle.std.proofs.lemmas.Bool.Decides.{nat_tests}
 use Rattle.peer.specs.Said.{begin_checked}
-use Rattle.session.specs.declared.refused.Refused.{Refused}
-use Rattle.session.specs.Refusals.{said_begun}
-
--- a test by the answer that it gave
-pub was_true : {E : Type 0} (b : Bool) (u : Unit {0}) (f : E) → ◌≡◌ {A = Result (Unit {0}) E} (Ok u) (cond b (Ok tt) (Err f)) → b ≡ true
-was_true true u f e = refl
-was_true false u f e = let z : ◌≡◌ {A = ℕ} 0 1 = cc in absurd (omega arith)
-
-pub was_false : {E : Type 0} (b : Bool) (f g : E) → ◌≡◌ {A = Result (Unit {0}) E} (Err g) (cond b (Ok tt) (Err f)) → b ≡ false
-was_false true f g e = let z : ◌≡◌ {A = ℕ} 0 1 = cc in absurd (omega arith)
-was_false false f g e = refl
+use Rattle.rollback_session.specs.declared.refused.Refused.{Refused}
+use Rattle.rollback_session.specs.Refusals.{said_begun}
 
 -- a session that begins has memory enough
 pub enough : (window inputs states picture : ℕ) → ◌≡◌ {A = Result (Unit {0}) Refused} (Ok tt) (said_begun (begin_checked window inputs states) picture) → (2000000 ≤ inputs) × (19200 ≤ picture)

@@ -2,11 +2,7 @@
 use Rattle.std.proofs.Common.{◌≡◌, ℕ, ◌+◌, ◌<◌, Bool, List, [], ◌∷◌, ◌++◌, map, length, get_or, take, refl, ap, ◌∙◌}
 use Rattle.std.proofs.lemmas.List.{take_more, map_push}
 use Rattle.peer.specs.Peers.{Log, Event, event, run}
-
-run_push : (fits : ℕ → Bool) (window : ℕ) (log : Log) (es : List Event) (e : Event) → run fits window log (es ++ e ∷ []) ≡ event fits window (run fits window log es) e
-unfolding run
-run_push fits window log [] e = refl
-run_push fits window log (d ∷ es) e = run_push fits window (event fits window log d) es e
+use Rattle.rollback_session.proofs.Rowed.{run_push}
 
 pub run_more : {X : Type 0} (of : X → Event) (fits : ℕ → Bool) (window : ℕ) (log : Log) (row : List X) (i : ℕ) (d : X) → i < length row → run fits window log (map of (take (i + 1) row)) ≡ event fits window (run fits window log (map of (take i row))) (of (get_or row i d))
 run_more of fits window log row i d lt =

@@ -6,17 +6,18 @@ ghost use Rattle.peer.specs.Said.{begin_checked};
 ghost use Rattle.peer.specs.Peers.{shows};
 ghost use Rattle.peer.specs.declared.outcome.Outcome.TheVariants.{Taken};
 ghost use Rattle.picture.specs.Picture.{picture_of};
-ghost use Rattle.session.specs.Events.{event_of, said};
-ghost use Rattle.session.specs.Refusals.{as_begun, said_begun, said_drawn};
+ghost use Rattle.rollback_session.specs.Events.{event_of};
+ghost use Rattle.rollback_session.specs.Refusals.{as_begun, said_begun};
+ghost use Rattle.session.specs.Events.{said};
+ghost use Rattle.session.specs.Refusals.{said_drawn};
 
-use crate::event::Happening;
-use crate::refused::Refused;
 use court_game::entry::Held;
 use game::seat::Seat;
 use peer::events::{receive, tick};
 use peer::shown::shown;
 use peer::{Outcome, Peer};
 use picture::LENGTH;
+use rollback_session::{Happening, Refused};
 
 // A new peer of the court's game, or why there is none: the window, the lent inputs, states or picture.
 pub fn begin(
@@ -29,16 +30,11 @@ pub fn begin(
     ensures answer { as_begun result ≡ said_begun (begin_checked window (length inputs.now) (length states.now)) (length picture.now) }
     ensures begun { IfOk result (λ p. Begun seat window p inputs.now) }
 {
-    match peer::events::begin(seat, window, inputs, states) {
-        Ok(p) => {
-            let short = picture.len() < LENGTH;
-            if short {
-                return Err(Refused::Picture);
-            }
-            Ok(p)
-        }
-        Err(refusal) => Err(Refused::Peer(refusal)),
+    let p = peer::events::begin(seat, window, inputs, states)?;
+    if picture.len() < LENGTH {
+        return Err(Refused::Picture);
     }
+    Ok(p)
 }
 
 // One event.
@@ -59,11 +55,6 @@ pub fn draw(p: &Peer, inputs: &[u8], picture: &mut [u8]) -> Result<(), Refused>
     ensures answer { result ≡ said_drawn (length inputs.now) (length picture.old) }
     ensures picture { picture.new ≡ (if nat_lt (length inputs.now) 2000000 then picture.old else (if nat_lt (length picture.old) 19200 then picture.old else picture_of (shows court_game p.now.seat (log_of p.now inputs.now)) ++ drop 19200 picture.old)) }
 {
-    match shown::<Held>(p, inputs) {
-        Ok(held) => match picture::draw(held.0, picture) {
-            Ok(()) => Ok(()),
-            Err(picture::Refused::TooShort) => Err(Refused::Picture),
-        },
-        Err(refusal) => Err(Refused::Peer(refusal)),
-    }
+    let held: Held = shown(p, inputs)?;
+    Ok(picture::draw(held.0, picture)?)
 }

@@ -1,13 +1,10 @@
 // A session at one machine, of the court's game: it begins over lent memory, takes one event at a call,
 // and draws what the peer shows as a picture. Nothing is allocated.
-// Rests on court_game, game, peer and picture.
+// Rests on court_game, game, peer, picture and rollback_session.
 
 #![tactic(auto)]
 
 pub mod calls;
-pub mod event;
-pub mod refused;
 pub mod whole;
 
-pub use event::Happening;
-pub use refused::Refused;
+pub use rollback_session::{Happening, Refused};

@@ -4,9 +4,9 @@ use Rattle.peer.specs.Lent.{log_of}
 use Rattle.peer.specs.Peers.{Log, run}
 use Rattle.peer.specs.Rows.{Memory, StandsFor}
 use Rattle.peer.proofs.Rowed.{stands_more}
-use Rattle.session.specs.declared.event.Happening.{Happening}
-use Rattle.session.specs.declared.event.Happening.TheVariants.{Tick}
-use Rattle.session.specs.Events.{event_of}
+use Rattle.rollback_session.specs.declared.event.Happening.{Happening}
+use Rattle.rollback_session.specs.declared.event.Happening.TheVariants.{Tick}
+use Rattle.rollback_session.specs.Events.{event_of}
 use Rattle.session.proofs.Rowed.{run_more}
 use Rattle.session.proofs.whole.happen_all.Goals as goal
 

@@ -2,7 +2,7 @@ use Rattle.std.proofs.Common.{leb, map, take}
 use Rattle.peer.specs.Lent.{log_of}
 use Rattle.peer.specs.Peers.{run}
 use Rattle.peer.specs.Rows.{StandsFor}
-use Rattle.session.specs.Events.{event_of}
+use Rattle.rollback_session.specs.Events.{event_of}
 use Rattle.session.proofs.whole.happen_all.Given as goal
 
 abbrev pub invariant-loop-event : goal.invariant-loop-event

@@ -3,7 +3,7 @@ use Rattle.court_game.specs.Games.{court_game}
 use Rattle.peer.specs.Lent.{log_of}
 use Rattle.peer.specs.Peers.{new_log, run, shows}
 use Rattle.picture.specs.Picture.{picture_of}
-use Rattle.session.specs.Events.{event_of}
+use Rattle.rollback_session.specs.Events.{event_of}
 use Rattle.session.proofs.Drawn.{enough}
 use Rattle.session.proofs.whole.play_session.Goals as goal
 
