@@ -1,5 +1,5 @@
 -- What drawing says and leaves, by the length of the lent picture. Assumes nothing.
-use Rattle.std.proofs.Common.{◌≡◌, ℕ, ◌≤◌, Bool, true, false, cond, Ok, Err, Result, refl, arith}
+use Rattle.std.proofs.Common.{◌≡◌, ℕ, ◌≤◌, Ok, Result, arith}
 use Rattle.std.proofs.lemmas.Bool.Decides.{nat_tests}
 use Rattle.peer.specs.Said.{begin_checked}
 use Rattle.rollback_session.specs.declared.refused.Refused.{Refused}
