@@ -1,6 +1,6 @@
 -- Frames in bytes, and the states after every 600th. Assumes nothing.
-use Rattle.std.proofs.Common.{◌≡◌, ℕ, zero, suc, ◌+◌, ◌*◌, ◌<◌, min, List, [], ◌∷◌, ◌++◌, map, length, get_or, take, drop, sym, refl, ap, ◌∙◌, add-one, arith, length-append}
-use Rattle.std.proofs.lemmas.List.{length-map, map-append, take-append-drop, take-take, drop-take, take_more, length-take-le}
+use Rattle.std.proofs.Common.{◌≡◌, ℕ, zero, suc, ◌+◌, ◌*◌, ◌<◌, min, List, [], ◌∷◌, ◌++◌, map, length, set, take, drop, sym, refl, ap, ◌∙◌, add-one, arith, length-append}
+use Rattle.std.proofs.lemmas.List.{append_assoc, append-nil, nil_from_length, take_all, take_more_set, length-map, map-append, take-append-drop, take-take, drop-take, take_more, length-take-le}
 use Rattle.court.specs.declared.state.State.{State}
 use Rattle.court.specs.Frame.{start}
 use Rattle.court_game.specs.Games.{court_game}
@@ -17,21 +17,24 @@ use Rattle.recording.specs.Matches.{frame_byte, frame_bytes, match_of, after_fra
 
 -- ---- frames
 
-pub frames_push : (xs ys : List ℕ) (a b : ℕ) → length xs ≡ length ys → frame_bytes (xs ++ a ∷ []) (ys ++ b ∷ []) ≡ frame_bytes xs ys ++ frame_byte a b ∷ []
+-- a frame more is written, of those that are left
+pub put_next : (fs xs ys xs_next ys_next all : List ℕ) (k a b : ℕ) → k + length xs ≡ length fs → xs ≡ a ∷ xs_next → ys ≡ b ∷ ys_next → take k fs ++ frame_bytes xs ys ≡ all → take (k + 1) (set fs k (frame_byte a b)) ++ frame_bytes xs_next ys_next ≡ all
 unfolding frame_bytes
-frames_push [] [] a b e = refl
-frames_push [] (y ∷ ys) a b e = let no : ⊥ = omega arith in absurd no
-frames_push (x ∷ xs) [] a b e = let no : ⊥ = omega arith in absurd no
-frames_push (x ∷ xs) (y ∷ ys) a b e = ap (λ zs. frame_byte x y ∷ zs) (frames_push xs ys a b (omega arith))
+put_next fs xs ys xs_next ys_next all k a b n e f h =
+    let m = ap length e in
+    ap (λ zs. zs ++ frame_bytes xs_next ys_next) (take_more_set fs k (frame_byte a b) (omega arith))
+    ∙ append_assoc (take k fs) (frame_byte a b ∷ []) (frame_bytes xs_next ys_next)
+    ∙ sym (ap (λ zs. take k fs ++ frame_bytes zs ys) e ∙ ap (λ zs. take k fs ++ frame_bytes (a ∷ xs_next) zs) f)
+    ∙ h
 
--- one frame more
-pub frames_more : (xs ys : List ℕ) (k : ℕ) → k < length xs → k < length ys → frame_bytes (take (k + 1) xs) (take (k + 1) ys) ≡ frame_bytes (take k xs) (take k ys) ++ frame_byte (get_or xs k 0) (get_or ys k 0) ∷ []
-frames_more xs ys k h l =
-    let lx = length-take-le k xs (omega arith) in
-    let ly = length-take-le k ys (omega arith) in
-    ap (λ zs. frame_bytes zs (take (k + 1) ys)) (take_more xs k 0 h)
-    ∙ ap (frame_bytes (take k xs ++ get_or xs k 0 ∷ [])) (take_more ys k 0 l)
-    ∙ frames_push (take k xs) (take k ys) (get_or xs k 0) (get_or ys k 0) (omega arith)
+-- none is left
+pub put_last : (fs xs ys all : List ℕ) (k : ℕ) → k + length xs ≡ length fs → length xs ≡ 0 → take k fs ++ frame_bytes xs ys ≡ all → fs ≡ all
+unfolding frame_bytes
+put_last fs xs ys all k n e h =
+    sym (append-nil fs)
+    ∙ ap (λ zs. zs ++ []) (sym (take_all k fs (omega arith)))
+    ∙ ap (λ zs. take k fs ++ frame_bytes zs ys) (sym (nil_from_length xs e))
+    ∙ h
 
 pub length_frames : (xs ys : List ℕ) → length (frame_bytes xs ys) ≡ min (length xs) (length ys)
 unfolding frame_bytes

@@ -30,8 +30,9 @@ fn put_frames(left: &[u8], right: &[u8], frames: &mut [u8])
     requires { (length left.now ≡ length frames.old) × (length right.now ≡ length frames.old) }
     ensures { frames.new ≡ frame_bytes left.now right.now }
 {
-    for k in 0..frames.len() {
-        frames[k] = left[k] % 16 + 16 * (right[k] % 16);
+    // By places: of a slice that `iter_mut` lends to a `zip` a proof knows afterwards only the length.
+    for (k, (a, b)) in left.iter().zip(right).enumerate() {
+        frames[k] = *a % 16 + 16 * (*b % 16);
     }
 }
 
@@ -41,7 +42,7 @@ fn put_states(frames: &[u8], states: &mut [u8])
     ensures { states.new ≡ marks frames.now (length frames.now / 600) ++ drop (64 * (length frames.now / 600)) states.old }
 {
     let mut state = Court::new();
-    // By places: of a slice lent as `chunks_exact_mut` a proof knows afterwards only the length.
+    // By places, since the same holds of `chunks_exact_mut`.
     for (j, part) in frames.chunks_exact(EVERY).enumerate() {
         state = game::plain::play_frames(Held(state), part).0;
         let at = STATE_BYTES * j;

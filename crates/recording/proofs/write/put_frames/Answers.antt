@@ -1,29 +1,34 @@
-use Rattle.std.proofs.Common.{[], ◌∷◌, ◌++◌, get_or, take, sym, refl, ap, ◌∙◌, arith}
-use Rattle.std.proofs.lemmas.List.{take_all, take_more_set}
+use Rattle.std.proofs.Common.{◌≡◌, ℕ, ◌+◌, length, refl, ap, ◌∙◌, inl, inr, arith, length-set}
+use Rattle.std.specs.Iterator.Adapters.{enumerate_source, enumerate_count, zip_first, zip_second}
+use Rattle.std.specs.Slice.Iter.{iter_rest}
 use Rattle.recording.specs.Matches.{frame_byte, frame_bytes}
-use Rattle.recording.proofs.Frames.{frames_more}
+use Rattle.recording.proofs.Frames.{put_next, put_last}
 use Rattle.recording.proofs.write.put_frames.Goals as goal
 
 pub loop-k-init : goal.loop-k-init
-unfolding frame_bytes
-loop-k-init c = refl
+loop-k-init c =
+    let it = c.into_iter-k-iterator.result in
+    let gives = c.into_iter-k-iterator.ensures.into_iter_gives in
+    let source : enumerate_source it ≡ c.zip.result = ap enumerate_source gives ∙ c.enumerate-k-items.ensures.source in
+    let none : enumerate_count it ≡ 0 = ap enumerate_count gives ∙ c.enumerate-k-items.ensures.count in
+    let xs : iter_rest (zip_first (enumerate_source it)) ≡ c.args.left.now = ap (λ z. iter_rest (zip_first z)) source ∙ cc in
+    let ys : iter_rest (zip_second (enumerate_source it)) ≡ c.args.right.now = ap (λ z. iter_rest (zip_second z)) source ∙ cc in
+    simp (none, xs, ys) (omega arith, omega arith, refl)
 
 pub loop-k-preserved : goal.loop-k-preserved
 loop-k-preserved c =
-    let k = c.loop-k.k in
-    let xs = c.args.left.now in
-    let ys = c.args.right.now in
-    let v = frame_byte (get_or xs k 0) (get_or ys k 0) in
-    take_more_set c.loop-k.frames k v (omega arith)
-    ∙ ap (λ zs. zs ++ v ∷ []) c.loop-k.invariant
-    ∙ sym (frames_more xs ys k (omega arith) (omega arith))
+    let s = c.in-Some.ensures.steps in
+    let before = c.loop-k.invariant in
+    let fs = c.loop-k.frames in
+    let k = enumerate_count c.loop-k.k-iterator in
+    let xs = ap length s.0.0 in
+    let ys = ap length s.0.1 in
+    let long = length-set fs k (frame_byte c.in-Some.a.now c.in-Some.b.now) in
+    simp (s.1, s.2) (omega arith, omega arith, put_next fs _ _ _ _ _ k _ _ before.0 s.0.0 s.0.1 before.2)
 
 pub returns : goal.returns
 returns c =
-    let k = c.loop-k.k in
-    let xs = c.args.left.now in
-    let ys = c.args.right.now in
-    sym (take_all k c.loop-k.frames (omega arith))
-    ∙ c.loop-k.invariant
-    ∙ ap (λ zs. frame_bytes zs (take k ys)) (take_all k xs (omega arith))
-    ∙ ap (frame_bytes xs) (take_all k ys (omega arith))
+    let before = c.loop-k.invariant in
+    let none : length (iter_rest (zip_first (enumerate_source c.loop-k.k-iterator))) ≡ 0 =
+    elim c.in-None.ensures.steps.0 [ inl h ↦ h.1.0 | inr h ↦ omega (arith, h.1.0) ] in
+    put_last c.loop-k.frames _ _ _ _ before.0 none before.2
