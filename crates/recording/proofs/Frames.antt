@@ -1,6 +1,6 @@
 -- Frames in bytes, and the states after every 600th. Assumes nothing.
-use Rattle.std.proofs.Common.{◌≡◌, ℕ, zero, suc, ◌+◌, ◌*◌, ◌<◌, min, List, [], ◌∷◌, ◌++◌, map, length, set, take, drop, sym, refl, ap, ◌∙◌, add-one, arith, length-append}
-use Rattle.std.proofs.lemmas.List.{append_assoc, append-nil, nil_from_length, take_all, take_more_set, length-map, map-append, take-append-drop, take-take, drop-take, take_more, length-take-le}
+use Rattle.std.proofs.Common.{◌≡◌, ℕ, zero, suc, ◌+◌, ◌*◌, min, List, [], ◌∷◌, ◌++◌, map, length, set, take, drop, sym, refl, ap, ◌∙◌, add-one, arith, length-append}
+use Rattle.std.proofs.lemmas.List.{append_assoc, append-nil, nil_from_length, take_all, take_more_set, length-map, map-append, take-append-drop, take-take, drop-take}
 use Rattle.court.specs.declared.state.State.{State}
 use Rattle.court.specs.Frame.{start}
 use Rattle.court_game.specs.Games.{court_game}

@@ -1,7 +1,7 @@
-use Rattle.std.proofs.Common.{◌≡◌, ℕ, ◌+◌, length, refl, ap, ◌∙◌, inl, inr, arith, length-set}
+use Rattle.std.proofs.Common.{◌≡◌, length, refl, ap, ◌∙◌, inl, inr, arith, length-set}
 use Rattle.std.specs.Iterator.Adapters.{enumerate_source, enumerate_count, zip_first, zip_second}
 use Rattle.std.specs.Slice.Iter.{iter_rest}
-use Rattle.recording.specs.Matches.{frame_byte, frame_bytes}
+use Rattle.recording.specs.Matches.{frame_byte}
 use Rattle.recording.proofs.Frames.{put_next, put_last}
 use Rattle.recording.proofs.write.put_frames.Goals as goal
 
