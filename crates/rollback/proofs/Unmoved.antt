@@ -2,8 +2,6 @@
 use Rattle.std.proofs.Common.{◌≡◌, ℕ, List, sym, refl, arith}
 use Rattle.game.specs.Saved.{SavedRules}
 use Rattle.peer.specs.declared.numbers.Peer.{Peer}
-use Rattle.peer.specs.declared.outcome.Refusal.{Refusal}
-use Rattle.rollback.specs.declared.outcome.Outcome.TheVariants.{Taken, Lost, Refused}
 use Rattle.peer.specs.Lent.{log_of}
 use Rattle.peer.specs.Peers.{Event, event}
 use Rattle.rollback.specs.Saved.{Roomy, Happened}
@@ -21,12 +19,3 @@ unmoved r p inputs states e same =
       does = λ room. sym (same room);
       keeps = λ _ kept. kept;
     }
-
-pub refused_taken : (f : Refusal) (n : ℕ) → Refused f ≡ Taken n → ⊥
-refused_taken f n e = let z : ◌≡◌ {A = ℕ} 0 1 = cc in omega arith
-
-pub lost_taken : (n : ℕ) → Lost ≡ Taken n → ⊥
-lost_taken n e = let z : ◌≡◌ {A = ℕ} 0 1 = cc in omega arith
-
-pub taken_taken : (m n : ℕ) → Taken m ≡ Taken n → m ≡ n
-taken_taken m n e = cc

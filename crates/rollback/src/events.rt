@@ -1,6 +1,7 @@
 // What a peer does: it begins, ticks and takes in packets. The memory that it is lent is tested at each call.
-ghost use Rattle.std.specs.Prelude.{◌≡◌, ℕ, ◌+◌, ◌<◌, ◌≤◌, true, not, ◌&&◌, ◌||◌, length, is_err, IfOk, Ok, ◌≢◌, nat_lt};
-ghost use Rattle.rollback.specs.declared.outcome.Outcome.TheVariants.{Taken};
+ghost use Rattle.std.specs.Prelude.{◌≡◌, ℕ, ◌+◌, ◌<◌, ◌≤◌, true, length, is_err, OnOk, IfOk, IfErr, Ok, ◌≢◌};
+ghost use Rattle.packet.specs.Wire.{Proper, message_of, reading};
+ghost use Rattle.rollback.specs.declared.outcome.Outcome.TheVariants.{Taken, Refused};
 ghost use Rattle.peer.specs.Lent.{Untouched, log_of, with_own};
 ghost use Rattle.peer.specs.Peers.{tick as ticked, arrival, predicted};
 ghost use Rattle.rollback.specs.Said.{begin_checked, said_tick, said_arrival};
@@ -68,6 +69,23 @@ fn go_on<G: SavedGame>(p: &mut Peer, inputs: &mut [u8], states: &mut [u8], input
     played
 }
 
+// Whether a tick may be taken, or why it is refused: the lent memory, then the input.
+fn check_tick<G: SavedGame>(
+    p: &Peer,
+    inputs: &[u8],
+    states: &[u8],
+    input: u8,
+) -> Result<(), Refusal>
+    ensures taken { OnOk result ((Roomy p.now.window inputs.now states.now) × (G.saved.fits input ≡ true)) }
+    ensures refused { IfErr result (λ f. Refused f ≡ said_tick G.saved.fits p.now.window (length inputs.now) (length states.now) (log_of p.now inputs.now) input) }
+{
+    check_memory(p.window, inputs, states)?;
+    if !G::fits(input) {
+        return Err(Refusal::Input);
+    }
+    Ok(())
+}
+
 // A frame's time, with the input at the peer's own seat.
 pub fn tick<G: SavedGame>(p: &mut Peer, inputs: &mut [u8], states: &mut [u8], input: u8) -> Outcome
     ensures answer { result ≡ said_tick G.saved.fits p.old.window (length inputs.old) (length states.old) (log_of p.old inputs.old) input }
@@ -75,16 +93,26 @@ pub fn tick<G: SavedGame>(p: &mut Peer, inputs: &mut [u8], states: &mut [u8], in
     ensures idle { ((n : ℕ) → result ≢ Taken n) → (p.new ≡ p.old) × (inputs.new ≡ inputs.old) × (states.new ≡ states.old) }
     ensures few { (n : ℕ) → result ≡ Taken n → n ≤ p.old.window }
 {
-    if let Err(refusal) = check_memory(p.window, inputs, states) {
-        return Outcome::Refused(refusal);
+    match check_tick::<G>(p, inputs, states, input) {
+        Ok(()) if p.may_play() => Outcome::Taken(go_on::<G>(p, inputs, states, input)),
+        Ok(()) => Outcome::Lost,
+        Err(refusal) => Outcome::Refused(refusal),
     }
-    if !G::fits(input) {
-        return Outcome::Refused(Refusal::Input);
-    }
-    if !p.may_play() {
-        return Outcome::Lost;
-    }
-    Outcome::Taken(go_on::<G>(p, inputs, states, input))
+}
+
+// The packet that bytes are, or why they are refused: the lent memory, then the bytes.
+fn read_packet<'a>(
+    p: &Peer,
+    inputs: &[u8],
+    states: &[u8],
+    bytes: &'a [u8],
+) -> Result<Packet<'a>, Refusal>
+    ensures memory { OnOk result (Roomy p.now.window inputs.now states.now) }
+    ensures taken { IfOk result (λ m. (Ok (message_of m) ≡ reading p.now.own bytes.now) × Proper p.now.own (message_of m)) }
+    ensures refused { IfErr result (λ f. Refused f ≡ said_arrival p.now.window (length inputs.now) (length states.now) (log_of p.now inputs.now) bytes.now) }
+{
+    check_memory(p.window, inputs, states)?;
+    Packet::read(bytes, p.own as u32).map_err(Refusal::Packet)
 }
 
 // Bytes that came from the other.
@@ -100,11 +128,8 @@ pub fn receive<G: SavedGame>(
     ensures few { (n : ℕ) → result ≡ Taken n → n ≤ p.old.window }
     ensures guessed { (n : ℕ) → result ≡ Taken n → predicted (log_of p.old inputs.old) ≡ predicted (log_of p.new inputs.new) → (n ≡ 0) × (states.new ≡ states.old) }
 {
-    if let Err(refusal) = check_memory(p.window, inputs, states) {
-        return Outcome::Refused(refusal);
-    }
-    match Packet::read(bytes, p.own as u32) {
+    match read_packet(p, inputs, states, bytes) {
         Ok(packet) => Outcome::Taken(take_in::<G>(p, inputs, states, packet)),
-        Err(fault) => Outcome::Refused(Refusal::Packet(fault)),
+        Err(refusal) => Outcome::Refused(refusal),
     }
 }

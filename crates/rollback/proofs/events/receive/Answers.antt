@@ -1,42 +1,20 @@
-use Rattle.std.proofs.Common.{length, Ok, Err, sym, refl, ap, ◌∙◌, arith, rules}
+use Rattle.std.proofs.Common.{◌≡◌, length, Ok, sym, refl, ap, ◌∙◌, arith, rules}
 use Rattle.packet.specs.Wire.{message_of}
 use Rattle.rollback.specs.declared.outcome.Outcome.TheVariants.{Taken}
 use Rattle.peer.specs.Lent.{log_of}
 use Rattle.peer.specs.Peers.{arrival, to_play}
 use Rattle.peer.proofs.Logs.{own_long}
-use Rattle.rollback.proofs.Happens.{checked_room, checked_short, arrival_refused, arrival_read}
-use Rattle.rollback.proofs.Unmoved.{unmoved, refused_taken, taken_taken}
+use Rattle.rollback.proofs.Happens.{arrival_stays, arrival_read}
+use Rattle.rollback.proofs.Unmoved.{unmoved}
 use Rattle.rollback.proofs.events.receive.Goals as goal
-
-pub returns-in-Err : goal.returns-in-Err
-returns-in-Err g c =
-    let r = g.G.SavedGame.saved in
-    let p = c.args.p.now in
-    let xs = c.args.inputs.now in
-    let states = c.args.states.now in
-    let bytes = c.args.bytes.now in
-    let f = c.in-Err.refusal in
-    let m = c.in-Err.ensures in
-    record {
-      answer = arrival_refused p.window (length xs) (length states) (log_of p xs) bytes f m;
-      happens = unmoved r p xs states (arrival bytes) (λ room. absurd (checked_short p.window (length xs) (length states) f m room.inputs_long room.states_long));
-      idle = λ _. (refl, refl, refl);
-      few = λ n e. absurd (refused_taken f n e);
-      guessed = λ n e _. absurd (refused_taken f n e);
-    }
 
 pub returns-in-Ok : goal.returns-in-Ok
 returns-in-Ok g c =
-    let r = g.G.SavedGame.saved in
     let p = c.args.p.now in
-    let q = c.take_in.new.p in
     let xs = c.args.inputs.now in
-    let states = c.args.states.now in
-    let bytes = c.args.bytes.now in
     let did = c.take_in.ensures in
-    let m = c.in_default.ensures in
-    let room = checked_room p.window (length xs) (length states) m in
-    let t = arrival_read r.fits p.window (length xs) (length states) (log_of p xs) bytes p.own (Ok (message_of c.in-Ok.packet)) m (own_long p xs room.0) c.in-Ok.ensures.value in
+    let room = c.in-Ok.ensures.memory in
+    let t = arrival_read g.G.SavedGame.saved.fits p.window (length xs) (length c.args.states.now) (log_of p xs) c.args.bytes.now p.own (message_of c.in-Ok.packet) room.inputs_long room.states_long (own_long p xs room.inputs_long) c.in-Ok.ensures.taken.0 in
     record {
       answer = ap Taken (did.count ∙ ap (to_play (log_of p xs)) did.log) ∙ t.0;
       happens = record {
@@ -50,24 +28,13 @@ returns-in-Ok g c =
         keeps = λ _ kept. did.keeps kept;
       };
       idle = λ none. absurd (none _ refl);
-      few = λ n e. let d = taken_taken _ n e in omega (arith, d, did.few);
-      guessed = λ n e same. let h = did.guessed same in (sym (taken_taken _ n e) ∙ h.0, h.1);
+      few = λ n e. let d : c.take_in.result ≡ n = cc in omega (arith, did.few);
+      guessed = λ n e same. let d : n ≡ c.take_in.result = cc in let h = did.guessed same in (d ∙ h.0, h.1);
     }
 
-pub returns-in-Err-read : goal.returns-in-Err-read
-returns-in-Err-read g c =
+pub returns-in-Err-clause-happens : goal.returns-in-Err-clause-happens
+returns-in-Err-clause-happens g c =
     let r = g.G.SavedGame.saved in
     let p = c.args.p.now in
     let xs = c.args.inputs.now in
-    let states = c.args.states.now in
-    let bytes = c.args.bytes.now in
-    let m = c.in_default.ensures in
-    let room = checked_room p.window (length xs) (length states) m in
-    let t = arrival_read r.fits p.window (length xs) (length states) (log_of p xs) bytes p.own (Err c.in-Err-read.fault) m (own_long p xs room.0) c.in-Err-read.ensures.value in
-    record {
-      answer = t.0;
-      happens = unmoved r p xs states (arrival bytes) (λ _. t.1);
-      idle = λ _. (refl, refl, refl);
-      few = λ n e. absurd (refused_taken _ n e);
-      guessed = λ n e _. absurd (refused_taken _ n e);
-    }
+    unmoved r p xs c.args.states.now (arrival c.args.bytes.now) (λ room. arrival_stays r.fits p.window (length xs) _ (log_of p xs) _ _ room.inputs_long room.states_long c.in-Err.ensures.refused)
