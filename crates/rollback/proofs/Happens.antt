@@ -5,7 +5,7 @@ use Rattle.std.proofs.lemmas.Bool.Decides.{nat_tests}
 use Rattle.packet.specs.Wire.{Message, reading}
 use Rattle.packet.specs.declared.fault.Fault.{Fault}
 use Rattle.peer.specs.declared.outcome.Refusal.{Refusal}
-use Rattle.peer.specs.declared.outcome.Refusal.TheVariants.{Input, Packet}
+use Rattle.peer.specs.declared.outcome.Refusal.TheVariants.{Input}
 use Rattle.rollback.specs.declared.outcome.Outcome.TheVariants.{Taken, Lost, Refused}
 use Rattle.peer.specs.Lent.{with_own}
 use Rattle.peer.specs.Peers.{Log, tick, arrival, goes_on, heard, event}

@@ -1,5 +1,5 @@
 -- Events that change nothing, and what they come to. Assumes nothing.
-use Rattle.std.proofs.Common.{◌≡◌, ℕ, List, sym, refl, arith}
+use Rattle.std.proofs.Common.{◌≡◌, ℕ, List, sym, refl}
 use Rattle.game.specs.Saved.{SavedRules}
 use Rattle.peer.specs.declared.numbers.Peer.{Peer}
 use Rattle.peer.specs.Lent.{log_of}

@@ -3,7 +3,7 @@ use Rattle.std.specs.Prelude.{◌≡◌, ℕ, ◌+◌, ◌*◌, ◌%◌, ◌≤�
 use Rattle.game.specs.Saved.{SavedRules}
 use Rattle.game.specs.declared.seat.Seat.{Seat}
 use Rattle.peer.specs.declared.numbers.Peer.{Peer}
-use Rattle.peer.specs.Lent.{Long, Untouched, log_of, seated, after}
+use Rattle.peer.specs.Lent.{Long, Untouched, log_of, other_at, seated, after}
 use Rattle.peer.specs.Peers.{Event, event, new_log, shows}
 
 -- ---- slots
@@ -35,6 +35,10 @@ Saved r seat window inputs came states lo hi =
 -- what a peer has saved: the states after its confirmed frames, after its last, and after each between
 abbrev pub Kept : {S : Type 0} → SavedRules S → Peer → List ℕ → List ℕ → Type 0
 Kept r p inputs states = Saved r p.seat p.window inputs p.other states (min p.own p.other) p.own
+
+-- the other's input that came for a frame is what was taken for it where so many had come
+abbrev pub AsTaken : ℕ → List ℕ → ℕ → Type 0
+AsTaken came inputs i = slice_index inputs (1000000 + i) ≡ other_at came inputs i
 
 -- ---- what calls do
 

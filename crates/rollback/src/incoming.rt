@@ -1,9 +1,9 @@
 // Inputs of the other: what came is compared with what was predicted, and where that was wrong the peer goes back.
-ghost use Rattle.std.specs.Prelude.{◌≡◌, ℕ, ◌+◌, ◌<◌, ◌≤◌, Ok, ◌≢◌, slice_index};
+ghost use Rattle.std.specs.Prelude.{◌≡◌, ℕ, ◌+◌, ◌<◌, ◌≤◌, MatchOption, Ok, min};
 ghost use Rattle.packet.specs.Wire.{Proper, message_of};
 ghost use Rattle.peer.specs.Lent.{Long, Untouched, log_of, other_at};
 ghost use Rattle.peer.specs.Peers.{heard, predicted, to_play};
-ghost use Rattle.rollback.specs.Saved.{Roomy, Behind, Kept};
+ghost use Rattle.rollback.specs.Saved.{Roomy, Behind, Kept, AsTaken};
 
 use crate::replay::replay;
 use game::saved::SavedGame;
@@ -11,23 +11,12 @@ use packet::Packet;
 use peer::Peer;
 use peer::log::{HALF, join, other_input};
 
-// The first frame that was played with a wrong prediction, where so many of the other's inputs had come before; else how many
-// frames were played.
-fn first_wrong(p: &Peer, inputs: &[u8], came: usize) -> usize
+// The first frame that was played with a wrong prediction, where so many of the other's inputs had come before.
+fn first_wrong(p: &Peer, inputs: &[u8], came: usize) -> Option<usize>
     requires { (Long inputs.now) × (came ≤ p.now.other) }
-    ensures within { result ≤ p.now.own }
-    ensures new { result < p.now.own → (came ≤ result) × (result < p.now.other) }
-    ensures right { (i : ℕ) → came ≤ i → i < result → i < p.now.other → slice_index inputs.now (1000000 + i) ≡ other_at came inputs.now i }
-    ensures wrong { result < p.now.own → slice_index inputs.now (1000000 + result) ≢ other_at came inputs.now result }
+    ensures { MatchOption result ((i : ℕ) → came ≤ i → i < min p.now.own p.now.other → AsTaken came inputs.now i) (λ w. (came ≤ w) × (w < min p.now.own p.now.other) × (¬ AsTaken came inputs.now w) × ((i : ℕ) → came ≤ i → i < w → AsTaken came inputs.now i)) }
 {
-    let end = p.confirmed();
-    for frame in came..end {
-        let right = inputs[HALF + frame] == other_input(inputs, came, frame);
-        if !right {
-            return frame;
-        }
-    }
-    p.own
+    (came..p.confirmed()).find(|&frame| inputs[HALF + frame] != other_input(inputs, came, frame))
 }
 
 // Takes in a packet. Where all was predicted right it plays nothing, and no byte of the states changes; else it goes back to the
@@ -52,11 +41,8 @@ pub(crate) fn take_in<G: SavedGame>(
 {
     let came = p.other;
     join(p, inputs, packet);
-    let wrong = first_wrong(p, inputs, came);
-    let back = wrong < p.own;
-    if back {
-        replay::<G>(p, inputs, states, wrong)
-    } else {
-        0
+    match first_wrong(p, inputs, came) {
+        Some(wrong) => replay::<G>(p, inputs, states, wrong),
+        None => 0,
     }
 }

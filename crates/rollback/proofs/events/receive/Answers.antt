@@ -1,4 +1,4 @@
-use Rattle.std.proofs.Common.{◌≡◌, length, Ok, sym, refl, ap, ◌∙◌, arith, rules}
+use Rattle.std.proofs.Common.{◌≡◌, length, sym, refl, ap, ◌∙◌, arith, rules}
 use Rattle.packet.specs.Wire.{message_of}
 use Rattle.rollback.specs.declared.outcome.Outcome.TheVariants.{Taken}
 use Rattle.peer.specs.Lent.{log_of}
