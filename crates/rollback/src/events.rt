@@ -8,11 +8,11 @@ ghost use Rattle.rollback.specs.Said.{begin_checked, said_tick, said_arrival};
 ghost use Rattle.peer.specs.Said.{as_checked};
 ghost use Rattle.rollback.specs.Saved.{Roomy, Behind, Kept, Begun, Happened};
 
-use crate::frames::play_frame;
+use crate::frames::Going;
 use crate::incoming::take_in;
 use crate::memory::check_memory;
 use crate::outcome::Outcome;
-use crate::slots::{load_at, save_at, slot_of};
+use crate::slots::save_at;
 use game::saved::SavedGame;
 use game::seat::Seat;
 use packet::Packet;
@@ -61,12 +61,10 @@ fn go_on<G: SavedGame>(p: &mut Peer, inputs: &mut [u8], states: &mut [u8], input
     ensures keeps { Kept G.saved p.old inputs.old states.old → Kept G.saved p.new inputs.new states.new }
     ensures count { result ≡ 1 }
 {
-    let frame = p.own;
-    let last: G = load_at(states, slot_of(p, frame));
+    let mut game: Going<G> = Going::from_saved(p, states, p.own);
     push_own(p, inputs, input);
-    let mut played = 0;
-    let _ = play_frame(p, inputs, states, frame, last, &mut played);
-    played
+    game.play_frame(p, inputs, states);
+    game.played
 }
 
 // Whether a tick may be taken, or why it is refused: the lent memory, then the input.

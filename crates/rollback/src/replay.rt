@@ -3,8 +3,7 @@ ghost use Rattle.std.specs.Prelude.{◌≡◌, ◌+◌, ◌%◌, ◌≤◌};
 ghost use Rattle.peer.specs.Lent.{seated, after};
 ghost use Rattle.rollback.specs.Saved.{Roomy, Behind, Saved, slot as slot_in};
 
-use crate::frames::play_frame;
-use crate::slots::{load_at, slot_of};
+use crate::frames::Going;
 use game::saved::SavedGame;
 use peer::Peer;
 
@@ -18,16 +17,12 @@ pub(crate) fn replay<G: SavedGame>(p: &Peer, inputs: &[u8], states: &mut [u8], f
     ensures saved { slot_in states.old (from % (p.now.window + 1)) ≡ G.saved.coded (after (seated p.now.seat G.saved.game) inputs.now p.now.other from) → Saved G.saved p.now.seat p.now.window inputs.now p.now.other states.new from p.now.own }
     ensures behind { Behind (p.now.window + 1) states.old states.new }
 {
-    let mut state: G = load_at(states, slot_of(p, from));
-    let mut k = from;
-    let mut played = 0;
+    let mut game: Going<G> = Going::from_saved(p, states, from);
     'replay: loop {
-        let done = k == p.own;
-        if done {
+        if game.frame == p.own {
             break 'replay;
         }
-        state = play_frame(p, inputs, states, k, state, &mut played);
-        k += 1;
+        game.play_frame(p, inputs, states);
     }
-    played
+    game.played
 }

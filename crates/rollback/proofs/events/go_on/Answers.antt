@@ -19,31 +19,33 @@ returns g c =
     let states = c.args.states.now in
     let did = c.push_own.ensures in
     let a = p.own in
-    let s = g.G.SavedGame.state c.play_frame.result in
+    let k = c.from_saved-game.result.frame in
+    let at : k ≡ a = c.from_saved-game.ensures.frame in
+    let s = g.G.SavedGame.state c.play_frame.new.self.state in
     let few = p.few in
     let room : (q.window + 1) * 64 ≤ length states = omega (arith, c.requires.roomy.states_long, did.window) in
-    let here : (a + 1) % (q.window + 1) < q.window + 1 = mod-lt (a + 1) (omega arith) in
+    let here : (k + 1) % (q.window + 1) < q.window + 1 = mod-lt (k + 1) (omega arith) in
     record {
       window = did.window;
       seat = did.seat;
       log = did.log;
       untouched = did.untouched;
-      behind = λ i h. ap (λ zs. get_or zs i 0) c.play_frame.ensures.saved ∙ slot_behind states (r.coded s) ((a + 1) % (q.window + 1)) (q.window + 1) here room (law.long s) i (omega (arith, did.window));
+      behind = λ i h. ap (λ zs. get_or zs i 0) c.play_frame.ensures.saved ∙ slot_behind states (r.coded s) ((k + 1) % (q.window + 1)) (q.window + 1) here room (law.long s) i (omega (arith, did.window));
       keeps = λ kept.
           let lo = min p.own p.other in
-          let same : (k : ℕ) → k ≤ a → after (seated p.seat r.game) xs p.other k ≡ after (seated p.seat r.game) ys q.other k =
-          λ k l. after_same (seated p.seat r.game) xs ys p.other q.other k
+          let same : (j : ℕ) → j ≤ k → after (seated p.seat r.game) xs p.other j ≡ after (seated p.seat r.game) ys q.other j =
+          λ j l. after_same (seated p.seat r.game) xs ys p.other q.other j
           (λ i h. did.untouched i (λ out. omega (arith, out.0)) (λ out. omega (arith, out.0)))
-          (λ i h. other_same xs ys p.other i (λ j m. did.untouched (1000000 + j) (λ out. omega (arith, out.1, did.own, c.requires.few)) (λ out. omega (arith, out.0))) ∙ ap (λ n. other_at n ys i) (sym did.other)) in
-          let moved : Saved r q.seat q.window ys q.other states lo a = saved_as r p.seat q.seat p.window q.window xs ys p.other q.other states lo lo a a did.seat did.window (omega arith) (omega arith) same kept in
+          (λ i h. other_same xs ys p.other i (λ n m. did.untouched (1000000 + n) (λ out. omega (arith, out.1, did.own, c.requires.few)) (λ out. omega (arith, out.0))) ∙ ap (λ n. other_at n ys i) (sym did.other)) in
+          let moved : Saved r q.seat q.window ys q.other states lo k = saved_as r p.seat q.seat p.window q.window xs ys p.other q.other states lo lo a k did.seat did.window (omega arith) (omega arith) same kept in
           let game = seated q.seat r.game in
-          let last : g.G.SavedGame.state c.load_at-last.result ≡ after game ys q.other a =
-          c.load_at-last.ensures (after game ys q.other a) (after_ok r law q.seat ys q.other a)
-          (ap (slot states) (c.slot_of.ensures.value ∙ ap (λ n. a % (n + 1)) (sym did.window)) ∙ moved a (omega arith) (omega arith)) in
-          let next : s ≡ after game ys q.other (a + 1) =
-          c.play_frame.ensures.value ∙ ap (λ t. game.frame t (own_at ys a) (other_at q.other ys a)) last ∙ sym (after_more game ys q.other a) in
-          let more = saved_more r law q.seat q.window ys q.other states lo a s (omega (arith, did.window, p.near.0, c.requires.near)) room next moved in
+          let last : g.G.SavedGame.state c.from_saved-game.result.state ≡ after game ys q.other k =
+          c.from_saved-game.ensures.state (after game ys q.other k) (after_ok r law q.seat ys q.other k)
+          (ap (λ i. slot states (i % (p.window + 1))) (sym at) ∙ ap (λ n. slot states (k % (n + 1))) (sym did.window) ∙ moved k (omega arith) (omega arith)) in
+          let next : s ≡ after game ys q.other (k + 1) =
+          c.play_frame.ensures.state ∙ ap (λ t. game.frame t (own_at ys k) (other_at q.other ys k)) last ∙ sym (after_more game ys q.other k) in
+          let more = saved_more r law q.seat q.window ys q.other states lo k s (omega (arith, did.window, p.near.0, c.requires.near)) room next moved in
           subst (λ zs. Saved r q.seat q.window ys q.other zs (min q.own q.other) q.own) (sym c.play_frame.ensures.saved)
-          (saved_as r q.seat q.seat q.window q.window ys ys q.other q.other _ lo (min q.own q.other) (a + 1) q.own refl refl (omega (arith, did.own, did.other)) (omega (arith, did.own)) (λ k l. refl) more);
-      count = c.play_frame.ensures.count;
+          (saved_as r q.seat q.seat q.window q.window ys ys q.other q.other _ lo (min q.own q.other) (k + 1) q.own refl refl (omega (arith, did.own, did.other)) (omega (arith, did.own)) (λ j l. refl) more);
+      count = omega (arith, c.play_frame.ensures.played, c.from_saved-game.ensures.played);
     }

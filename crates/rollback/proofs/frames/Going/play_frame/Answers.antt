@@ -1,0 +1,22 @@
+use Rattle.std.proofs.Common.{ℕ, get_or, ap, ◌∙◌}
+use Rattle.peer.specs.Lent.{seated, own_at}
+use Rattle.rollback.specs.Saved.{with_slot}
+use Rattle.rollback.proofs.Seats.{seated_frame}
+use Rattle.rollback.proofs.frames.Going.play_frame.Goals as goal
+
+pub returns-clause-state : goal.returns-clause-state
+unfolding own_at
+returns-clause-state g c =
+    let rules = g.G.SavedGame.saved in
+    let seat = c.args.p.now.seat in
+    let old = c.args.self.now in
+    let s = g.G.SavedGame.state old.state in
+    let own = get_or c.args.inputs.now old.frame 0 in
+    g.met.G.SavedGame.same_game.goes_on old.state c.advance-self.result _ _ c.advance-self.ensures
+    ∙ ap (λ (i : ℕ × ℕ). rules.game.frame s i.0 i.1) c.in_order-left.ensures
+    ∙ seated_frame seat rules.game s own c.other_input-other.result
+    ∙ ap ((seated seat rules.game).frame s own) c.other_input-other.ensures
+
+pub returns-clause-saved : goal.returns-clause-saved
+returns-clause-saved g c =
+    c.save_at.ensures ∙ ap (λ i. with_slot c.args.states.now i (g.G.SavedGame.saved.coded (g.G.SavedGame.state c.advance-self.result))) c.slot_of.ensures.value
