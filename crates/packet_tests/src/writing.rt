@@ -50,11 +50,7 @@ fn most_inputs(rt: HostRuntime) -> Result<(), Fail> {
     };
     assert_eq!(rt; full.write(&mut out), Ok(130));
     assert_eq!(rt; out[130], 9);
-    match Packet::read(&out[0..130], 5) {
-        Ok(p) => {
-            assert_eq!(rt; (p.first, p.ack, p.inputs.len()), (999_880, 5, 120));
-            Ok(())
-        },
-        Err(_) => Err(Fail::new("refused")),
-    }
+    let p = Packet::read(&out[0..130], 5)?;
+    assert_eq!(rt; (p.first, p.ack, p.inputs.len()), (999_880, 5, 120));
+    Ok(())
 }

@@ -1,3 +1,4 @@
+use crate::packets::packet;
 use court_game::entry::Held;
 use court_game::plain::play;
 use game::seat::Seat;
@@ -9,12 +10,6 @@ use peer::{Outcome, Peer, Refusal};
 use std::process::Abort;
 use std::test::Fail;
 
-// A packet's bytes: its first frame and its acknowledgement are below 256 here.
-fn packet(first: u8, ack: u8, inputs: [u8; 3]) -> [u8; 13] {
-    let [a, b, c] = inputs;
-    [b'H', first, 0, 0, 0, 3, ack, 0, 0, 0, a, b, c]
-}
-
 // What is shown is the plain game with these inputs.
 fn check_shown(
     rt: &impl Abort,
@@ -23,13 +18,9 @@ fn check_shown(
     left: &[u8],
     right: &[u8],
 ) -> Result<(), Fail> {
-    match shown::<Held>(p, inputs) {
-        Ok(held) => {
-            assert_eq!(rt; held.0.state, play(left, right).state);
-            Ok(())
-        },
-        Err(_) => Err(Fail::new("refused")),
-    }
+    let held = shown::<Held>(p, inputs)?;
+    assert_eq!(rt; held.0.state, play(left, right).state);
+    Ok(())
 }
 
 // Seat 0, window 3: three ticks are taken and the fourth is lost; then the other's inputs come, none predicted right.
@@ -38,18 +29,12 @@ fn ticks_and_a_packet(rt: HostRuntime) -> Result<(), Fail> {
     let mut inputs = vec![in rt.alloc(); 7u8; 2_000_000]?;
     let states = [0u8; 256];
     let mut p = begin(Seat::Left, 3, inputs.as_slice(), &states)?;
-    assert_eq!(rt;
-        tick::<Held>(&mut p, inputs.as_mut_slice(), 1),
-        Outcome::Taken
-    );
-    assert_eq!(rt;
-        tick::<Held>(&mut p, inputs.as_mut_slice(), 1),
-        Outcome::Taken
-    );
-    assert_eq!(rt;
-        tick::<Held>(&mut p, inputs.as_mut_slice(), 1),
-        Outcome::Taken
-    );
+    for _ in 0..3u8 {
+        assert_eq!(rt;
+            tick::<Held>(&mut p, inputs.as_mut_slice(), 1),
+            Outcome::Taken
+        );
+    }
     assert_eq!(rt;
         tick::<Held>(&mut p, inputs.as_mut_slice(), 1),
         Outcome::Lost
@@ -144,10 +129,11 @@ fn refused(rt: HostRuntime) -> Result<(), Fail> {
     Ok(())
 }
 
-fn told(window: usize, inputs: &[u8], states: &[u8]) -> (u8, usize) {
+// The window of a peer that begins; or the number and the place of its refusal.
+fn told(window: usize, inputs: &[u8], states: &[u8]) -> Result<usize, (u8, usize)> {
     match begin(Seat::Left, window, inputs, states) {
-        Ok(p) => (0, p.window),
-        Err(f) => (f.number(), f.place()),
+        Ok(p) => Ok(p.window),
+        Err(f) => Err((f.number(), f.place())),
     }
 }
 
@@ -155,12 +141,15 @@ fn told(window: usize, inputs: &[u8], states: &[u8]) -> (u8, usize) {
 fn begins(rt: HostRuntime) -> Result<(), Fail> {
     let inputs = vec![in rt.alloc(); 0u8; 2_000_000]?;
     let states = [0u8; 3904];
-    assert_eq!(rt; told(0, inputs.as_slice(), &states), (5, 0));
-    assert_eq!(rt; told(61, &[], &[]), (5, 0));
-    assert_eq!(rt; told(60, &inputs.as_slice()[0..1_999_999], &[]), (5, 1));
-    assert_eq!(rt; told(60, inputs.as_slice(), &states[0..3903]), (5, 2));
-    assert_eq!(rt; told(60, inputs.as_slice(), &states), (0, 60));
-    assert_eq!(rt; told(1, inputs.as_slice(), &states[0..128]), (0, 1));
+    assert_eq!(rt; told(0, inputs.as_slice(), &states), Err((5, 0)));
+    assert_eq!(rt; told(61, &[], &[]), Err((5, 0)));
+    assert_eq!(rt;
+        told(60, &inputs.as_slice()[0..1_999_999], &[]),
+        Err((5, 1))
+    );
+    assert_eq!(rt; told(60, inputs.as_slice(), &states[0..3903]), Err((5, 2)));
+    assert_eq!(rt; told(60, inputs.as_slice(), &states), Ok(60));
+    assert_eq!(rt; told(1, inputs.as_slice(), &states[0..128]), Ok(1));
     Ok(())
 }
 
@@ -180,11 +169,7 @@ fn sends(rt: HostRuntime) -> Result<(), Fail> {
         receive(&mut p, inputs.as_mut_slice(), &packet(0, 2, [8, 8, 8])),
         Outcome::Taken
     );
-    match outgoing(&p, inputs.as_slice()) {
-        Ok(sent) => {
-            assert_eq!(rt; (sent.first, sent.ack, sent.inputs.len()), (2, 3, 1));
-            Ok(())
-        },
-        Err(_) => Err(Fail::new("refused")),
-    }
+    let sent = outgoing(&p, inputs.as_slice())?;
+    assert_eq!(rt; (sent.first, sent.ack, sent.inputs.len()), (2, 3, 1));
+    Ok(())
 }

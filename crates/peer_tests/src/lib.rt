@@ -6,3 +6,5 @@
 mod events;
 #[cfg(test)]
 mod logs;
+#[cfg(test)]
+mod packets;

@@ -1,3 +1,4 @@
+use crate::packets::packet;
 use game::seat::Seat;
 use packet::{Fault, Packet};
 use peer::log::join;
@@ -6,22 +7,12 @@ use peer::{Peer, Refusal};
 use std::process::Abort;
 use std::test::Fail;
 
-// A packet's bytes: its first frame and its acknowledgement are below 256 here.
-fn packet(first: u8, ack: u8, inputs: [u8; 3]) -> [u8; 13] {
-    let [a, b, c] = inputs;
-    [b'H', first, 0, 0, 0, 3, ack, 0, 0, 0, a, b, c]
-}
-
 // Takes in a packet, if it is one for this peer.
 fn take(rt: &impl Abort, p: &mut Peer, inputs: &mut [u8], bytes: &[u8]) -> Result<(), Fail> {
     assert!(rt; inputs.len() >= 2_000_000);
-    match Packet::read(bytes, p.own as u32) {
-        Ok(packet) => {
-            join(p, inputs, packet);
-            Ok(())
-        }
-        Err(_) => Err(Fail::new("refused")),
-    }
+    let packet = Packet::read(bytes, u32::try_from(p.own)?)?;
+    join(p, inputs, packet);
+    Ok(())
 }
 
 // A gap, an overlap, a packet again, and one that contradicts what came before.
@@ -60,10 +51,8 @@ fn log_sends(rt: HostRuntime) -> Result<(), Fail> {
         other: 3,
         acked: 2,
     };
-    match outgoing(&few, inputs.as_slice()) {
-        Ok(sent) => assert_eq!(rt; (sent.first, sent.ack, sent.inputs.len()), (2, 3, 1)),
-        Err(_) => return Err(Fail::new("refused")),
-    }
+    let sent = outgoing(&few, inputs.as_slice())?;
+    assert_eq!(rt; (sent.first, sent.ack, sent.inputs.len()), (2, 3, 1));
     let many = Peer {
         seat: Seat::Right,
         window: 60,
@@ -71,17 +60,40 @@ fn log_sends(rt: HostRuntime) -> Result<(), Fail> {
         other: 150,
         acked: 10,
     };
-    match outgoing(&many, inputs.as_slice()) {
-        Ok(sent) => assert_eq!(rt; (sent.first, sent.ack, sent.inputs.len()), (10, 150, 120)),
-        Err(_) => return Err(Fail::new("refused")),
-    }
-    match outgoing(&many, &inputs.as_slice()[0..1_999_999]) {
-        Ok(_) => Err(Fail::new("sent")),
-        Err(refusal) => {
-            assert_eq!(rt; (refusal.number(), refusal.place()), (5, 1));
-            Ok(())
-        },
-    }
+    let sent = outgoing(&many, inputs.as_slice())?;
+    assert_eq!(rt; (sent.first, sent.ack, sent.inputs.len()), (10, 150, 120));
+    let refusal = outgoing(&many, &inputs.as_slice()[0..1_999_999]).err();
+    assert_eq!(rt; refusal.map(|f| (f.number(), f.place())), Some((5, 1)));
+    Ok(())
+}
+
+// A new peer, one that has played ahead, and one that is as far ahead as it may be.
+#[test]
+fn numbers(rt: HostRuntime) -> Result<(), Fail> {
+    let new = Peer::new(Seat::Right, 2)?;
+    assert_eq!(rt; (new.window, new.own, new.other, new.acked), (2, 0, 0, 0));
+    assert_eq!(rt;
+        (new.seat, new.may_play(), new.confirmed()),
+        (Seat::Right, true, 0)
+    );
+    let ahead = Peer {
+        seat: Seat::Left,
+        window: 2,
+        own: 5,
+        other: 3,
+        acked: 0,
+    };
+    assert_eq!(rt; (ahead.may_play(), ahead.confirmed()), (false, 3));
+    let behind = Peer {
+        seat: Seat::Left,
+        window: 2,
+        own: 4,
+        other: 7,
+        acked: 0,
+    };
+    assert_eq!(rt; (behind.may_play(), behind.confirmed()), (true, 4));
+    assert_eq!(rt; Peer::new(Seat::Left, 61).err(), Some(Refusal::Window));
+    Ok(())
 }
 
 #[test]
