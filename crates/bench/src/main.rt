@@ -4,12 +4,14 @@
 //     bench packets COUNT      reads packets of 0 to 120 inputs; prints the sum of some of what they say
 #![tactic(auto)]
 
-use anyhow::anyhow;
+use anyhow::bail;
 use court::{Court, Input};
 use packet::Packet;
 use picture::{LENGTH, draw};
 use std::env;
 use std::process::ExitCode;
+
+const USAGE: &str = "usage: bench pictures|packets COUNT";
 
 fn input(n: u32) -> Input {
     Input((n % 16) as u8)
@@ -32,9 +34,8 @@ fn pictures(count: u32, picture: &mut [u8]) -> u64 {
         court = next(court, frame);
         let _ = draw(court, picture);
         let at = frame as usize * 7919 % LENGTH;
-        if at < picture.len() {
-            sum = sum.wrapping_add(u64::from(picture[at]));
-        }
+        let byte = picture.get(at).copied().unwrap_or(0);
+        sum = sum.wrapping_add(u64::from(byte));
     }
     sum
 }
@@ -43,16 +44,15 @@ fn pictures(count: u32, picture: &mut [u8]) -> u64 {
 fn packets(count: u32, buffer: &mut [u8; 130]) -> u64 {
     let mut sum: u64 = 0;
     for k in 0..count {
-        let inputs = k as usize % 121;
-        buffer[5] = inputs as u8;
-        buffer[6] = (k % 256) as u8;
-        if let Ok(p) = Packet::read(&buffer[0..10 + inputs], 1_000_000) {
+        let inputs = (k % 121) as u8;
+        buffer[5] = inputs;
+        buffer[6] = k.to_le_bytes()[0];
+        if let Ok(p) = Packet::read(&buffer[..10 + usize::from(inputs)], 1_000_000) {
             sum = sum
                 .wrapping_add(u64::from(p.first))
                 .wrapping_add(u64::from(p.ack));
-            if let Some(last) = p.inputs.last() {
-                sum = sum.wrapping_add(u64::from(*last));
-            }
+            let last = p.inputs.last().copied().unwrap_or(0);
+            sum = sum.wrapping_add(u64::from(last));
         }
     }
     sum
@@ -61,7 +61,7 @@ fn packets(count: u32, buffer: &mut [u8; 130]) -> u64 {
 fn run(rt: &HostRuntime) -> anyhow::Result<()> {
     let mut args = env::args(rt)?.skip(1);
     let (Some(what), Some(count), None) = (args.next(), args.next(), args.next()) else {
-        return Err(anyhow!("usage: bench pictures|packets COUNT"));
+        bail!(USAGE);
     };
     let count = count.as_str().parse::<u32>()?;
     let sum = match what.as_str() {
@@ -72,22 +72,22 @@ fn run(rt: &HostRuntime) -> anyhow::Result<()> {
         "packets" => {
             let mut buffer = [7u8; 130];
             buffer[0] = b'H';
-            buffer[3] = 0;
-            buffer[4] = 0;
-            buffer[8] = 0;
-            buffer[9] = 0;
+            buffer[3..5].fill(0);
+            buffer[8..10].fill(0);
             packets(count, &mut buffer)
         }
-        _ => return Err(anyhow!("usage: bench pictures|packets COUNT")),
+        _ => bail!(USAGE),
     };
     println!(rt; "{sum}")?;
     Ok(())
 }
 
-fn main(rt: HostRuntime) -> anyhow::Result<ExitCode> {
-    if let Err(e) = run(&rt) {
-        eprintln!(rt; "{e}")?;
-        return Ok(ExitCode::FAILURE);
+fn main(rt: HostRuntime) -> ExitCode {
+    match run(&rt) {
+        Ok(()) => ExitCode::SUCCESS,
+        Err(e) => {
+            let _ = eprintln!(rt; "{e}");
+            ExitCode::FAILURE
+        }
     }
-    Ok(ExitCode::SUCCESS)
 }

@@ -6,26 +6,22 @@
 // With `show` the picture of that state follows, as text.
 #![tactic(auto)]
 
-use anyhow::anyhow;
+use anyhow::{anyhow, bail};
 use court::{Court, State};
-use court_game::plain::{MOST_FRAMES, Unplayed, play_frames};
-use picture::{LENGTH, Refused, draw, text_of};
+use court_game::plain::{MOST_FRAMES, play_frames};
+use picture::{LENGTH, draw, text_of};
 use std::env;
 use std::fs::File;
-use std::io::Read;
+use std::io::{self, Read};
 use std::process::ExitCode;
 
+const USAGE: &str = "usage: plain FILE [show]";
+
 // The frames of a file; of one with too many, no more than show that.
-fn read_frames(rt: &HostRuntime, path: &str) -> anyhow::Result<Vec<u8>> {
+fn read_frames(rt: &HostRuntime, path: &str) -> io::Result<Vec<u8>> {
     let mut frames = Vec::new(rt.alloc());
-    let file = match File::open(rt, path) {
-        Ok(file) => file,
-        Err(e) => return Err(anyhow!(format!(in rt.alloc(); "plain: {path}: {e}")?)),
-    };
-    match file.take(MOST_FRAMES as u64 + 1).read_to_end(&mut frames) {
-        Ok(_) => {}
-        Err(e) => return Err(anyhow!(format!(in rt.alloc(); "plain: {path}: {e}")?)),
-    }
+    let file = File::open(rt, path)?;
+    file.take(MOST_FRAMES as u64 + 1).read_to_end(&mut frames)?;
     Ok(frames)
 }
 
@@ -44,10 +40,7 @@ fn print_state(rt: &HostRuntime, frames: usize, s: State) -> anyhow::Result<()> 
 
 fn print_picture(rt: &HostRuntime, court: Court) -> anyhow::Result<()> {
     let mut picture = vec![in rt.alloc(); 0u8; LENGTH]?;
-    match draw(court, picture.as_mut_slice()) {
-        Ok(()) => {}
-        Err(Refused::TooShort) => return Err(anyhow!("plain: no room for a picture")),
-    }
+    draw(court, picture.as_mut_slice()).map_err(|_| anyhow!("plain: no room for a picture"))?;
     print!(rt; "{}", text_of(rt.alloc(), picture.as_slice())?)?;
     Ok(())
 }
@@ -55,32 +48,23 @@ fn print_picture(rt: &HostRuntime, court: Court) -> anyhow::Result<()> {
 // The file's name, and whether to show the picture.
 fn arguments(rt: &HostRuntime) -> anyhow::Result<(String, bool)> {
     let mut args = env::args(rt)?.skip(1);
-    let path = args.next();
-    let word = args.next();
-    if let (Some(path), None) = (path, args.next()) {
-        match word {
-            None => return Ok((path, false)),
-            Some(word) => {
-                if word.as_str() == "show" {
-                    return Ok((path, true));
-                }
-            }
-        }
+    let (path, word) = (args.next(), args.next());
+    let (Some(path), None) = (path, args.next()) else {
+        bail!(USAGE);
+    };
+    match word {
+        None => Ok((path, false)),
+        Some(word) if word.as_str() == "show" => Ok((path, true)),
+        Some(_) => bail!(USAGE),
     }
-    Err(anyhow!("usage: plain FILE [show]"))
 }
 
 fn run(rt: &HostRuntime) -> anyhow::Result<()> {
     let (path, show) = arguments(rt)?;
-    let frames = read_frames(rt, path.as_str())?;
-    let court = match play_frames(frames.as_slice()) {
-        Ok(court) => court,
-        Err(Unplayed::TooMany) => {
-            return Err(anyhow!(format!(in rt.alloc();
-                "plain: {path}: more than {MOST_FRAMES} frames"
-            )?));
-        }
-    };
+    let frames = read_frames(rt, path.as_str()).map_err(|e| anyhow!("plain: {path}: {e}"))?;
+    let court = play_frames(frames.as_slice()).map_err(|_| anyhow!(
+        "plain: {path}: more than {MOST_FRAMES} frames"
+    ))?;
     print_state(rt, frames.len(), court.state)?;
     if show {
         print_picture(rt, court)?;
