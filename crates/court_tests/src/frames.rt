@@ -2,76 +2,64 @@
 use court::state::{Ball, Paddle, Score};
 use court::{Court, Input, State};
 use std::process::Abort;
-use std::test::Fail;
 
-// The ball after a frame in which nobody moves, from a position and a velocity, with the paddles at the start.
-fn ball_after(x: i32, y: i32, dx: i32, dy: i32) -> Option<Ball> {
-    if x < 512 || x > 40448 || y < 512 || y > 30208 {
-        return None;
-    }
-    if dx < -1536 || dx > 1536 || dy < -1536 || dy > 1536 {
-        return None;
-    }
-    let court = Court {
-        state: State {
-            ball: Ball { x, y, dx, dy },
-            left: Paddle { x: 2048, y: 15360 },
-            right: Paddle { x: 38912, y: 15360 },
-            score: Score { left: 0, right: 0 },
-            wait: 0,
-        },
-    };
-    Some(court.frame(Input(0), Input(0)).state.ball)
+// A ball by its position and its velocity.
+fn ball((x, y, dx, dy): (i32, i32, i32, i32)) -> Ball {
+    Ball { x, y, dx, dy }
 }
 
-fn check_ball(
-    rt: &impl Abort,
-    from: (i32, i32, i32, i32),
-    to: (i32, i32, i32, i32),
-) -> Result<(), Fail> {
-    let ball = ball_after(from.0, from.1, from.2, from.3).ok_or("not in the court")?;
-    assert_eq!(rt; (ball.x, ball.y, ball.dx, ball.dy), to);
-    Ok(())
+// The ball after a frame in which nobody moves, with the paddles at the start.
+fn check_ball(rt: &impl Abort, from: (i32, i32, i32, i32), to: (i32, i32, i32, i32)) {
+    let state = State {
+        ball: ball(from),
+        left: Paddle { x: 2048, y: 15360 },
+        right: Paddle { x: 38912, y: 15360 },
+        score: Score { left: 0, right: 0 },
+        wait: 0,
+    };
+    let court = Court::clamped(state);
+    assert_eq!(rt; court.state, state, "in the court");
+    assert_eq!(rt; court.frame(Input(0), Input(0)).state.ball, ball(to));
 }
 
 #[test]
-fn walls(rt: HostRuntime) -> Result<(), Fail> {
-    check_ball(&rt, (20000, 712, -300, -200), (19700, 512, -300, -200))?;
-    check_ball(&rt, (20000, 711, -300, -200), (19700, 512, -300, 200))?;
-    check_ball(&rt, (20000, 30008, 300, 200), (20300, 30208, 300, 200))?;
-    check_ball(&rt, (20000, 30009, 300, 200), (20300, 30208, 300, -200))
+fn walls(rt: HostRuntime) {
+    check_ball(&rt, (20000, 712, -300, -200), (19700, 512, -300, -200));
+    check_ball(&rt, (20000, 711, -300, -200), (19700, 512, -300, 200));
+    check_ball(&rt, (20000, 30008, 300, 200), (20300, 30208, 300, 200));
+    check_ball(&rt, (20000, 30009, 300, 200), (20300, 30208, 300, -200));
 }
 
 // A paddle meets the ball below 1,024 in x and below 2,560 in y.
 #[test]
-fn reach_of_paddles(rt: HostRuntime) -> Result<(), Fail> {
-    check_ball(&rt, (3584, 15360, -512, 0), (3072, 15360, -512, 0))?;
-    check_ball(&rt, (3583, 15360, -512, 0), (3072, 15360, 544, 0))?;
-    check_ball(&rt, (3583, 12800, -512, 0), (3071, 12800, -512, 0))?;
-    check_ball(&rt, (3583, 12801, -512, 0), (3072, 12801, 544, -159))?;
-    check_ball(&rt, (37376, 15360, 512, 0), (37888, 15360, 512, 0))?;
-    check_ball(&rt, (37377, 15360, 512, 0), (37888, 15360, -544, 0))
+fn reach_of_paddles(rt: HostRuntime) {
+    check_ball(&rt, (3584, 15360, -512, 0), (3072, 15360, -512, 0));
+    check_ball(&rt, (3583, 15360, -512, 0), (3072, 15360, 544, 0));
+    check_ball(&rt, (3583, 12800, -512, 0), (3071, 12800, -512, 0));
+    check_ball(&rt, (3583, 12801, -512, 0), (3072, 12801, 544, -159));
+    check_ball(&rt, (37376, 15360, 512, 0), (37888, 15360, 512, 0));
+    check_ball(&rt, (37377, 15360, 512, 0), (37888, 15360, -544, 0));
 }
 
 // It changes the ball's velocity in y by a sixteenth of the distance, rounded toward 0, and makes it faster, up to a limit.
 #[test]
-fn bend_and_speed(rt: HostRuntime) -> Result<(), Fail> {
-    check_ball(&rt, (3583, 15345, -512, 0), (3072, 15345, 544, 0))?;
-    check_ball(&rt, (3583, 15344, -512, 0), (3072, 15344, 544, -1))?;
-    check_ball(&rt, (3583, 15375, -512, 0), (3072, 15375, 544, 0))?;
-    check_ball(&rt, (3583, 15376, -512, 0), (3072, 15376, 544, 1))?;
-    check_ball(&rt, (3583, 15860, -1503, 1500), (3072, 17360, 1535, 1536))?;
-    check_ball(&rt, (3583, 14860, -1505, -1500), (3072, 13360, 1536, -1536))
+fn bend_and_speed(rt: HostRuntime) {
+    check_ball(&rt, (3583, 15345, -512, 0), (3072, 15345, 544, 0));
+    check_ball(&rt, (3583, 15344, -512, 0), (3072, 15344, 544, -1));
+    check_ball(&rt, (3583, 15375, -512, 0), (3072, 15375, 544, 0));
+    check_ball(&rt, (3583, 15376, -512, 0), (3072, 15376, 544, 1));
+    check_ball(&rt, (3583, 15860, -1503, 1500), (3072, 17360, 1535, 1536));
+    check_ball(&rt, (3583, 14860, -1505, -1500), (3072, 13360, 1536, -1536));
 }
 
 #[test]
-fn ends_and_goals(rt: HostRuntime) -> Result<(), Fail> {
-    check_ball(&rt, (1024, 15000, -512, 0), (512, 15000, -512, 0))?;
-    check_ball(&rt, (700, 10239, -512, 0), (512, 10239, 512, 0))?;
-    check_ball(&rt, (700, 10240, -512, 0), (20480, 15360, 512, -256))?;
-    check_ball(&rt, (39936, 15000, 512, 0), (40448, 15000, 512, 0))?;
-    check_ball(&rt, (39937, 20480, 512, 0), (20480, 15360, -512, -256))?;
-    check_ball(&rt, (39937, 20481, 512, 0), (40448, 20481, -512, 0))
+fn ends_and_goals(rt: HostRuntime) {
+    check_ball(&rt, (1024, 15000, -512, 0), (512, 15000, -512, 0));
+    check_ball(&rt, (700, 10239, -512, 0), (512, 10239, 512, 0));
+    check_ball(&rt, (700, 10240, -512, 0), (20480, 15360, 512, -256));
+    check_ball(&rt, (39936, 15000, 512, 0), (40448, 15000, 512, 0));
+    check_ball(&rt, (39937, 20480, 512, 0), (20480, 15360, -512, -256));
+    check_ball(&rt, (39937, 20481, 512, 0), (40448, 20481, -512, 0));
 }
 
 // Where the left paddle is after a frame with an input, from the start.

@@ -1,6 +1,7 @@
 // Whole games: inputs of both seats, and the state that they come to, worked out from the rules.
 use court::state::{Ball, Paddle, Score};
 use court::{Court, State};
+use court_game::entry::Held;
 use court_game::plain::{play, play_frames, play_on};
 use game::rules::Game;
 use std::test::Fail;
@@ -112,13 +113,9 @@ fn goes_on_from_a_state(rt: HostRuntime) -> Result<(), Fail> {
     let part = play(&[6u8; 13], &[9u8; 13]);
     assert_ne!(rt; part.state, whole.state);
     assert_eq!(rt; play_on(part, &[6u8; 27], &[9u8; 27]).state, whole.state);
-    match play_frames(&[150u8; 40]) {
-        Ok(court) => {
-            assert_eq!(rt; court.state, whole.state);
-            Ok(())
-        },
-        Err(_) => Err(Fail::new("refused")),
-    }
+    let by_bytes = play_frames(&[150u8; 40]).ok().ok_or("refused")?;
+    assert_eq!(rt; by_bytes.state, whole.state);
+    Ok(())
 }
 
 // A million frames are played, and not one more.
@@ -132,8 +129,8 @@ fn plays_a_million(rt: HostRuntime) -> Result<(), Fail> {
 
 #[test]
 fn takes_four_bits(rt: HostRuntime) {
-    assert!(rt; <court_game::entry::Held as game::rules::Game>::fits(0));
-    assert!(rt; <court_game::entry::Held as game::rules::Game>::fits(15));
-    assert!(rt; !<court_game::entry::Held as game::rules::Game>::fits(16));
-    assert!(rt; !<court_game::entry::Held as game::rules::Game>::fits(255));
+    assert!(rt; Held::fits(0));
+    assert!(rt; Held::fits(15));
+    assert!(rt; !Held::fits(16));
+    assert!(rt; !Held::fits(255));
 }

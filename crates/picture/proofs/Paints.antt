@@ -1,10 +1,12 @@
 -- What painters leave at a place of a row. Assumes nothing.
-use Rattle.std.proofs.Common.{◌≡◌, ℕ, zero, suc, ◌+◌, ◌-◌, ◌/◌, ◌%◌, ◌<◌, ◌≤◌, Bool, true, false, cond, ◌&&◌, ◌||◌, eqb, List, [], length, get_or, set, replicate, sym, refl, ap, ◌∙◌, arith}
+use Rattle.std.proofs.Common.{◌≡◌, ℕ, zero, suc, ◌+◌, ◌-◌, ◌/◌, ◌%◌, ◌<◌, ◌≤◌, Bool, true, false, cond, ◌&&◌, ◌||◌, not, eqb, List, [], length, get_or, set, replicate, sym, refl, ap, ◌∙◌, arith}
+use lib.Bits.{bit_and}
 use borrow.Rule.Slice.PartMut.{put_mid}
 use Rattle.std.proofs.lemmas.List.{places, get_or_past, get_or-replicate, get_or-set_same, length-replicate}
 use Rattle.std.proofs.lemmas.Bool.{cases_eq, cases_lt}
 use Rattle.std.proofs.lemmas.Bool.Decides.{nat_tests}
 use Rattle.court.specs.declared.state.State.{State}
+use Rattle.court.proofs.Bits.{mask_bit}
 use Rattle.picture.specs.Areas.{in_run, Covered}
 use Rattle.picture.specs.Picture.{glyphs, in_bits, in_digit, in_score, on_line, dot}
 use Rattle.picture.specs.declared.areas.Areas.{Areas}
@@ -61,15 +63,15 @@ ground_beside i j h = grind (arith, nat_tests)
 
 -- ---- digits
 
-three_by : (bits left i g k : ℕ) → i - left ≡ k → cond (eqb i (left + 2) && eqb (bits % 2) 1) 4 (cond (eqb i (left + 1) && eqb (bits / 2 % 2) 1) 4 (cond (eqb i left && eqb (bits / 4 % 2) 1) 4 g)) ≡ cond (in_bits bits left i) 4 g
+three_by : (bits left i g k : ℕ) → i - left ≡ k → cond (eqb i (left + 2) && eqb (bits / 1 % 2) 1) 4 (cond (eqb i (left + 1) && eqb (bits / 2 % 2) 1) 4 (cond (eqb i left && eqb (bits / 4 % 2) 1) 4 g)) ≡ cond (in_bits bits left i) 4 g
 unfolding in_bits
 three_by bits left i g zero e = simp e (grind (arith, nat_tests))
 three_by bits left i g (suc zero) e = simp e (grind (arith, nat_tests))
 three_by bits left i g (suc (suc zero)) e = simp e (grind (arith, nat_tests))
 three_by bits left i g (suc (suc (suc k))) e = simp e (grind (arith, nat_tests))
 
-pub three_marks : (bits left i g : ℕ) → cond (eqb i (left + 2) && eqb (bits % 2) 1) 4 (cond (eqb i (left + 1) && eqb (bits / 2 % 2) 1) 4 (cond (eqb i left && eqb (bits / 4 % 2) 1) 4 g)) ≡ cond (in_bits bits left i) 4 g
-three_marks bits left i g = three_by bits left i g (i - left) refl
+pub three_marks : (bits left i g : ℕ) → cond (eqb i (left + 2) && not (eqb (bit_and bits 1) 0)) 4 (cond (eqb i (left + 1) && not (eqb (bit_and bits 2) 0)) 4 (cond (eqb i left && not (eqb (bit_and bits 4) 0)) 4 g)) ≡ cond (in_bits bits left i) 4 g
+three_marks bits left i g = simp (mask_bit bits 0, mask_bit bits 1, mask_bit bits 2) (three_by bits left i g (i - left) refl)
 
 pub digit_in : (n digit left i j : ℕ) → n ≡ digit → true ≡ in_run (record { from = 4; to = 9 }) j → in_bits (get_or (get_or glyphs n []) (j - 4) 0) left i ≡ in_digit digit left i j
 unfolding in_run in_digit

@@ -1,9 +1,8 @@
 // Which dots the ball and the paddles cover, as runs of columns and rows; worked out once for a picture.
 ghost use Rattle.std.specs.Prelude.{◌≡◌, pos, ◌-ℤ◌, ◌≤ℤ◌};
-ghost use Rattle.court.specs.Bounds.{InCourt};
 ghost use Rattle.picture.specs.Areas.{in_run, Covers, Covered};
 
-use court::{BALL_HALF, HEIGHT, PADDLE_HALF_X, PADDLE_HALF_Y, State, WIDTH};
+use court::{BALL_HALF, Court, HEIGHT, PADDLE_HALF_X, PADDLE_HALF_Y, WIDTH};
 
 // From a place up to, but without, another.
 #[derive(Clone, Copy)]
@@ -26,10 +25,11 @@ pub struct Areas {
 }
 
 impl Run {
+    #[tactic(auto, unfolding(crate::specs::Areas::in_run))]
     pub(crate) fn has(self, place: usize) -> bool
         ensures { result ≡ in_run self place }
     {
-        self.from <= place && place < self.to
+        (self.from..self.to).contains(&place)
     }
 }
 
@@ -38,15 +38,16 @@ fn run_of(position: i32, half: i32, side: i32) -> Run
     requires { (pos 128 ≤ℤ half) × ((half ≤ℤ position) × ((position ≤ℤ (side -ℤ half)) × (side ≤ℤ pos 40960))) }
     ensures { Covers position half result }
 {
+    // Neither is negative in the court, so that the casts keep them; try_from would have an error that cannot come.
     let from = (position - half + 128) as usize / 256;
     let to = (position + half + 127) as usize / 256;
     Run { from, to }
 }
 
-pub(crate) fn areas_of(s: State) -> Areas
-    requires { InCourt s }
-    ensures { Covered s result }
+pub(crate) fn areas_of(court: Court) -> Areas
+    ensures { Covered court.state result }
 {
+    let s = court.state;
     Areas {
         ball: Area {
             columns: run_of(s.ball.x, BALL_HALF, WIDTH),

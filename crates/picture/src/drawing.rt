@@ -41,12 +41,11 @@ pub fn draw(court: Court, picture: &mut [u8]) -> Result<(), Refused>
     if short {
         return Err(Refused::TooShort);
     }
-    let s = court.state;
-    let areas = areas_of(s);
+    let areas = areas_of(court);
+    // By index, each row a part that is lent on: no clause of chunks_exact_mut or as_chunks_mut says what the slice ends as.
     for j in 0..HEIGHT {
         let at = WIDTH * j;
-        let end = at + WIDTH;
-        draw_row(&mut picture[at..end], j, s, areas);
+        draw_row(&mut picture[at..at + WIDTH], j, court, areas);
     }
     Ok(())
 }

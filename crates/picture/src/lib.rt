@@ -19,7 +19,7 @@ pub const WIDTH: usize = 160;
 pub const HEIGHT: usize = 120;
 
 // Bytes of a picture.
-pub const LENGTH: usize = 19200;
+pub const LENGTH: usize = WIDTH * HEIGHT;
 
 // Bytes of dots. One that is none of these is 0.
 pub const LINE: u8 = 1;

@@ -1,14 +1,13 @@
 // One row: its background, then what crosses it painted over. Each painter says of every place of the row, also past its end,
 // what stands there after: its own byte where a test holds, else what stood there before.
 ghost use Rattle.std.specs.Prelude.{◌≡◌, ℕ, ◌≤◌, ◌&&◌, length, if◌then◌else◌, slice_index};
-ghost use Rattle.court.specs.Bounds.{InCourt};
 ghost use Rattle.picture.specs.Areas.{in_run, Covered};
 ghost use Rattle.picture.specs.Picture.{on_line, row_of};
 
 use crate::areas::{Area, Areas, Run};
 use crate::score::paint_score;
-use crate::{BALL, LINE, PADDLE};
-use court::State;
+use crate::{BALL, LINE, PADDLE, WIDTH};
+use court::Court;
 
 // The rows in which the ends are open.
 const GOAL_ROWS: Run = Run { from: 40, to: 80 };
@@ -17,9 +16,7 @@ fn paint_run(row: &mut [u8], run: Run, byte: u8)
     requires { (run.from ≤ run.to) × (run.to ≤ length row.old) }
     ensures { (i : ℕ) → slice_index row.new i ≡ (if in_run run i then byte else slice_index row.old i) }
 {
-    let from = run.from;
-    let to = run.to;
-    row[from..to].fill(byte);
+    row[run.from..run.to].fill(byte);
 }
 
 // The ball or a paddle, where row j crosses it.
@@ -39,22 +36,22 @@ fn paint_ground(row: &mut [u8], j: usize)
     ensures { (i : ℕ) → slice_index row.new i ≡ (if on_line i j then 1 else 0) }
 {
     row.fill(0);
-    row[79] = LINE;
-    row[80] = LINE;
+    row[WIDTH / 2 - 1] = LINE;
+    row[WIDTH / 2] = LINE;
     let beside_goal = !GOAL_ROWS.has(j);
     if beside_goal {
         row[0] = LINE;
-        row[159] = LINE;
+        row[WIDTH - 1] = LINE;
     }
 }
 
 // Row j of the picture of a state. Whatever is painted later lies over what was painted before.
-pub(crate) fn draw_row(row: &mut [u8], j: usize, s: State, areas: Areas)
-    requires { (length row.old ≡ 160) × ((InCourt s) × (Covered s areas)) }
-    ensures { row.new ≡ row_of s j 0 160 }
+pub(crate) fn draw_row(row: &mut [u8], j: usize, court: Court, areas: Areas)
+    requires { (length row.old ≡ 160) × (Covered court.state areas) }
+    ensures { row.new ≡ row_of court.state j 0 160 }
 {
     paint_ground(row, j);
-    paint_score(row, j, s.score);
+    paint_score(row, j, court);
     paint_area(row, j, areas.ball, BALL);
     paint_area(row, j, areas.left, PADDLE);
     paint_area(row, j, areas.right, PADDLE);

@@ -4,7 +4,7 @@ ghost use Rattle.picture.specs.Picture.{in_bits, in_digit};
 
 use crate::DIGIT;
 use crate::areas::Run;
-use court::state::Score;
+use court::Court;
 
 // Digits 0 to 9, of 3 by 5 dots: a number for each row, with bits 4, 2 and 1 from the left.
 const GLYPHS: [[u8; 5]; 10] = [
@@ -41,16 +41,17 @@ fn paint_digit(row: &mut [u8], left: usize, bits: u8)
     requires { left + 3 ≤ length row.old }
     ensures { (i : ℕ) → slice_index row.new i ≡ (if in_bits bits left i then 4 else slice_index row.old i) }
 {
-    mark(row, left, bits / 4 % 2 == 1);
-    mark(row, left + 1, bits / 2 % 2 == 1);
-    mark(row, left + 2, bits % 2 == 1);
+    mark(row, left, bits & 4 != 0);
+    mark(row, left + 1, bits & 2 != 0);
+    mark(row, left + 2, bits & 1 != 0);
 }
 
 // Both digits, where row j crosses them.
-pub(crate) fn paint_score(row: &mut [u8], j: usize, score: Score)
-    requires { (length row.old ≡ 160) × ((score.left ≤ 9) × (score.right ≤ 9)) }
-    ensures { (i : ℕ) → slice_index row.new i ≡ (if in_digit score.left 70 i j || in_digit score.right 87 i j then 4 else slice_index row.old i) }
+pub(crate) fn paint_score(row: &mut [u8], j: usize, court: Court)
+    requires { length row.old ≡ 160 }
+    ensures { (i : ℕ) → slice_index row.new i ≡ (if in_digit court.state.score.left 70 i j || in_digit court.state.score.right 87 i j then 4 else slice_index row.old i) }
 {
+    let score = court.state.score;
     let crosses = ROWS.has(j);
     if crosses {
         let k = j - ROWS.from;

@@ -17,21 +17,13 @@ const BEFORE: u8 = 9;
 
 // FNV-1a, of 32 bits.
 fn checksum(bytes: &[u8]) -> u32 {
-    let mut sum: u32 = 2166136261;
-    for b in bytes {
-        sum = (sum ^ u32::from(*b)).wrapping_mul(16777619);
-    }
-    sum
+    bytes.iter().fold(2166136261, |sum, b| {
+        (sum ^ u32::from(*b)).wrapping_mul(16777619)
+    })
 }
 
-fn count(bytes: &[u8], kind: u8) -> u32 {
-    let mut n: u32 = 0;
-    for b in bytes {
-        if *b == kind {
-            n = n.wrapping_add(1);
-        }
-    }
-    n
+fn count(bytes: &[u8], kind: u8) -> usize {
+    bytes.iter().filter(|b| **b == kind).count()
 }
 
 fn print_counts(rt: &HostRuntime, bytes: &[u8]) -> anyhow::Result<()> {
@@ -50,9 +42,8 @@ fn print_counts(rt: &HostRuntime, bytes: &[u8]) -> anyhow::Result<()> {
 fn show_in(rt: &HostRuntime, name: &str, court: Court, length: usize) -> anyhow::Result<()> {
     let mut bytes = vec![in rt.alloc(); BEFORE; length]?;
     print!(rt; "{name}:")?;
-    match draw(court, bytes.as_mut_slice()) {
-        Ok(()) => {}
-        Err(e) => print!(rt; " refused {} at {}", e.number(), e.place())?,
+    if let Err(e) = draw(court, bytes.as_mut_slice()) {
+        print!(rt; " refused {} at {}", e.number(), e.place())?;
     }
     print_counts(rt, bytes.as_slice())
 }
