@@ -5,7 +5,7 @@ ghost use Rattle.exchange.specs.Tallies.{counted_by};
 use crate::moves::Act;
 use rollback::Outcome;
 
-#[derive(Clone, Copy)]
+#[derive(Clone, Copy, PartialEq, Eq, Debug)]
 pub struct Tally {
     // Ticks that were lost.
     pub lost: usize,
