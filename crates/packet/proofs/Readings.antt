@@ -14,14 +14,6 @@ message_in xs = record { first = first_in xs; inputs = inputs_in xs; ack = ack_i
 
 -- ---- by the checks
 
-pub bad_start : (own : ℕ) (xs : List ℕ) (f : Fault) → start_checked xs ≡ Err f → reading own xs ≡ Err f
-unfolding reading
-bad_start own xs f e = simp e
-
-pub bad_rest : (own : ℕ) (xs : List ℕ) (f : Fault) → start_checked xs ≡ Ok tt → rest_checked own xs ≡ Err f → reading own xs ≡ Err f
-unfolding reading
-bad_rest own xs f d e = simp (d, e)
-
 pub all_right : (own : ℕ) (xs : List ℕ) → start_checked xs ≡ Ok tt → rest_checked own xs ≡ Ok tt → reading own xs ≡ Ok (message_in xs)
 unfolding reading
 all_right own xs d e = simp (d, e)
@@ -96,15 +88,13 @@ ok_same : {m n : Message} → ◌≡◌ {A = Result Message Fault} (Ok m) (Ok n)
 ok_same e = cc
 
 -- the checks of what is taken went well
-checked : (own : ℕ) (xs : List ℕ) (m : Message) (s t : Result (Unit {0}) Fault) → start_checked xs ≡ s → rest_checked own xs ≡ t → reading own xs ≡ Ok m → (start_checked xs ≡ Ok tt) × (rest_checked own xs ≡ Ok tt)
+checked : (own : ℕ) (xs : List ℕ) (m : Message) → reading own xs ≡ Ok m → (start_checked xs ≡ Ok tt) × (rest_checked own xs ≡ Ok tt)
 unfolding reading
-checked own xs m (Ok u) (Ok v) d e h = (d, e)
-checked own xs m (Ok u) (Err f) d e h = let no : ◌≡◌ {A = Result Message Fault} (Err f) (Ok m) = sym (bad_rest own xs f d e) ∙ h in absurd (ok_is_not_err no)
-checked own xs m (Err f) t d e h = let no : ◌≡◌ {A = Result Message Fault} (Err f) (Ok m) = sym (bad_start own xs f d) ∙ h in absurd (ok_is_not_err no)
+checked own xs m e = (grind arith, grind arith)
 
 pub read_written : ReadWritten
 read_written own xs m b h =
-    let k = checked own xs m (start_checked xs) (rest_checked own xs) refl refl h in
+    let k = checked own xs m h in
     let s : Started xs = started xs k.0 in
     let t : Ended own xs = ended own xs k.1 in
     let e : message_in xs ≡ m = ok_same (sym (all_right own xs k.0 k.1) ∙ h) in

@@ -71,6 +71,7 @@ fn check_rest(packet: &[u8], own: u32) -> Result<(), Fault>
 impl<'a> Packet<'a> {
     // Bytes as a packet for a peer that has made so many inputs; or their fault at the lowest place.
     // A packet that is taken is written as those very bytes.
+    #[tactic(auto, using(crate::proofs::Checks::started, crate::proofs::Checks::ended), unfolding(crate::specs::Wire::reading))]
     pub fn read(packet: &'a [u8], own: u32) -> Result<Packet<'a>, Fault>
         ensures value { read_as result ≡ reading own packet.now }
         ensures proper { IfOk result (λ p. Proper own (message_of p)) }

@@ -4,6 +4,8 @@ use borrow.Rule.Slice.PartMut.{put_mid}
 use Rattle.std.proofs.lemmas.List.{places, take-take, take_all, drop-take, drop-append-le, length-take-le, append-nil}
 use Rattle.std.proofs.lemmas.Slice.{take-put_mid}
 use Rattle.std.proofs.lemmas.Bool.{cases_lt}
+use Rattle.std.proofs.lemmas.Bool.Decides.{nat_tests}
+use Rattle.std.proofs.lemmas.Grind.{common_steps}
 use Rattle.packet.specs.Wire.{Message}
 use Rattle.peer.specs.declared.numbers.Peer.{Peer}
 use Rattle.peer.specs.Lent.{Long, log_of}
@@ -33,11 +35,7 @@ goes_on_is p inputs l =
 
 -- bytes that are not written to stay
 pub get_or_put_mid_other : (a k : ℕ) (xs ys : List ℕ) (i : ℕ) → length ys ≡ k → a + k ≤ length xs → ((a ≤ i) × (i < a + k) → ⊥) → get_or (put_mid a k xs ys) i 0 ≡ get_or xs i 0
-get_or_put_mid_other a k xs ys i n h out =
-    elim (cases_lt i a) [
-      | inl lt ↦ grind (arith, places)
-      | inr ge ↦ elim (cases_lt i (a + k)) [ inl lt ↦ absurd (out (ge, lt)) | inr far ↦ grind (arith, places) ]
-    ]
+get_or_put_mid_other a k xs ys i n h out = grind (arith, places)
 
 -- inputs of the other written behind those that came
 pub other_put : (m b k : ℕ) (xs ys : List ℕ) → m + b ≤ length xs → take (b + length ys) (drop m (put_mid (m + b) k xs ys)) ≡ take b (drop m xs) ++ ys
@@ -51,11 +49,7 @@ other_put m b k xs ys l =
 -- what joins on, by what is new
 pub joined_is : (xs : List ℕ) (m : Message) (b : ℕ) → length xs ≡ b → joined xs m ≡ xs ++ cond (ltb b m.first) [] (drop (b - m.first) m.inputs)
 unfolding joined
-joined_is xs m b e =
-    elim (cases_lt (length xs) m.first) [
-      | inl h ↦ let f : ltb (length xs) m.first ≡ true = lt-ltb _ _ h in simp (sym e, f, append-nil)
-      | inr h ↦ let f : ltb (length xs) m.first ≡ false = le-ltb _ _ h in simp (sym e, f)
-    ]
+joined_is xs m b e = grind (arith, nat_tests, common_steps)
 
 -- the inputs that a packet has, as a part of the lent memory
 pub part_sent : (xs : List ℕ) (own acked to : ℕ) → acked ≤ own → own ≤ length xs → to ≡ min own (acked + 120) → take (to - acked) (drop acked xs) ≡ take 120 (drop acked (take own xs))

@@ -55,7 +55,7 @@ pub fn receive(p: &mut Peer, inputs: &mut [u8], bytes: &[u8]) -> Outcome
     if let Err(refusal) = check_inputs(inputs) {
         return Outcome::Refused(refusal);
     }
-    // An outcome is no Result, so `?` would take a function more for this one error.
+    // An outcome is no Result, so `?` would take a function more for this one error. The check proves that the cast loses nothing.
     match Packet::read(bytes, p.own as u32) {
         Ok(packet) => {
             join(p, inputs, packet);

@@ -1,5 +1,5 @@
 use Rattle.std.proofs.Common.{◌≡◌, ℕ, ◌+◌, ◌-◌, ◌<◌, ◌≤◌, List, length, get_or, take, drop, None, Some, Option, Bor, refl, ap, ◌∙◌, inl, inr, arith, length-drop, length-take, get_or-take, get_or-drop, le-ltb, lt-ltb}
-use Rattle.std.proofs.Math.ListN.{get_or-eq_default}
+use Rattle.std.proofs.lemmas.List.{get_or_past}
 use Rattle.std.specs.Option.{unwrap_or, option_or, option_copied}
 use Rattle.std.proofs.lemmas.Bool.{cases_lt}
 use Rattle.std.proofs.lemmas.Grind.{get_or_default_zero}
@@ -26,10 +26,10 @@ other_is came frame xs ys h e =
     elim (cases_lt frame came) [
       | inl lt ↦ simp (lt-ltb frame came lt) (here frame last lt)
       | inr ge ↦
-          let out : get_or ys frame last ≡ last = get_or-eq_default ys last (omega arith) in
+          let out : get_or ys frame last ≡ last = get_or_past ys frame last (omega arith) in
           elim (cases_lt 0 came) [
             | inl some ↦ simp (le-ltb frame came ge, lt-ltb 0 came some) (out ∙ ap (λ m. get_or ys (m - 1) 0) n ∙ here (came - 1) 0 (omega arith))
-            | inr none ↦ simp (le-ltb frame came ge, le-ltb 0 came none) (out ∙ get_or-eq_default ys 0 (omega arith))
+            | inr none ↦ simp (le-ltb frame came ge, le-ltb 0 came none) (out ∙ get_or_past ys (length ys - 1) 0 (omega arith))
           ]
     ]
 
