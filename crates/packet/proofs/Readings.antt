@@ -1,5 +1,5 @@
 -- What is read is what was written, and only that. Assumes nothing.
-use Rattle.std.proofs.Common.{◌≡◌, ℕ, ◌^◌, ◌<◌, true, List, ◌∷◌, ◌++◌, length, get_or, take, drop, is_err, Ok, Err, Result, sym, refl, ap, ◌∙◌, subst, arith, length-drop}
+use Rattle.std.proofs.Common.{◌≡◌, ℕ, ◌^◌, ◌<◌, true, List, ◌∷◌, ◌++◌, length, get_or, drop, is_err, Ok, Err, Result, sym, refl, ap, ◌∙◌, subst, arith, length-drop}
 use Rattle.std.proofs.lemmas.List.{drop_more, take_all}
 use Rattle.byte_numbers.specs.Little.{little, part}
 use Rattle.byte_numbers.specs.Numbers.{number_little}
@@ -116,5 +116,5 @@ refused_exactly own xs small b = (
 
 -- ---- what the reader makes
 
-pub as_read : (xs : List ℕ) (f a k : ℕ) → f ≡ first_in xs → a ≡ ack_in xs → k ≡ count_in xs → ◌≡◌ {A = Message} (record { first = f; inputs = take k (drop 10 xs); ack = a }) (message_in xs)
-as_read xs f a k e g n = cc
+pub as_read : (xs : List ℕ) (f a : ℕ) (is : List ℕ) → f ≡ first_in xs → a ≡ ack_in xs → is ≡ inputs_in xs → ◌≡◌ {A = Message} (record { first = f; inputs = is; ack = a }) (message_in xs)
+as_read xs f a is e g h = cc

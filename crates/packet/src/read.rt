@@ -1,7 +1,7 @@
 // Bytes as a packet, or the fault at the lowest place.
-ghost use Rattle.std.specs.Prelude.{◌≡◌, ◌≤◌, length, IfOk, nat_lt};
+ghost use Rattle.std.specs.Prelude.{◌≡◌, IfOk, Ok, Err, MatchResult, nat_lt};
 ghost use Rattle.std.specs.List.{position};
-ghost use Rattle.packet.specs.Wire.{Proper, message_of, message_bytes, start_checked, rest_checked, reading, read_as};
+ghost use Rattle.packet.specs.Wire.{Proper, message_of, message_bytes, first_in, count_in, ack_in, inputs_in, start_checked, rest_checked, reading, read_as};
 
 use crate::fault::Fault;
 use crate::message::Packet;
@@ -16,10 +16,10 @@ fn find_bad(inputs: &[u8]) -> Option<usize>
     inputs.iter().position(|input| *input > LARGEST_INPUT)
 }
 
-// The mark, the first frame and the number of inputs.
+// The first frame and the number of inputs, which stand behind the mark.
 #[tactic(auto, using(std::proofs::lemmas::Bool::Decides::nat_tests), unfolding(crate::specs::Wire::start_checked))]
-fn check_start(packet: &[u8]) -> Result<(), Fault>
-    ensures { result ≡ start_checked packet.now }
+fn read_start(packet: &[u8]) -> Result<(u32, u8), Fault>
+    ensures { MatchResult result (λ r. (start_checked packet.now ≡ Ok tt) × (r.0 ≡ first_in packet.now) × (r.1 ≡ count_in packet.now)) (λ f. start_checked packet.now ≡ Err f) }
 {
     let Some(mark) = packet.first() else {
         return Err(Fault::CutShort(0));
@@ -31,7 +31,8 @@ fn check_start(packet: &[u8]) -> Result<(), Fault>
     let Some(count) = packet.get(COUNT_AT) else {
         return Err(Fault::CutShort(packet.len()));
     };
-    let past_end = u64::from(u32::get(packet, FIRST_AT)) + u64::from(*count) > MOST_FRAMES;
+    let first = u32::get(packet, FIRST_AT);
+    let past_end = u64::from(first) + u64::from(*count) > MOST_FRAMES;
     if past_end {
         return Err(Fault::PastEnd);
     }
@@ -39,31 +40,32 @@ fn check_start(packet: &[u8]) -> Result<(), Fault>
     if many {
         return Err(Fault::TooMany);
     }
-    Ok(())
+    Ok((first, *count))
 }
 
-// The acknowledgement, the inputs and the length, of a packet whose start is right.
+// The acknowledgement and the inputs, so many, of a packet whose start is right.
 #[tactic(auto, using(std::proofs::lemmas::Bool::Decides::nat_tests, crate::proofs::Firsts::inputs_there), unfolding(crate::specs::Wire::rest_checked))]
-fn check_rest(packet: &[u8], own: u32) -> Result<(), Fault>
-    requires { 6 ≤ length packet.now }
-    ensures { result ≡ rest_checked own packet.now }
+fn read_rest(packet: &[u8], own: u32, count: u8) -> Result<(u32, &[u8]), Fault>
+    requires { count ≡ count_in packet.now }
+    ensures { MatchResult result (λ r. (rest_checked own packet.now ≡ Ok tt) × (r.0 ≡ ack_in packet.now) × (r.1.now ≡ inputs_in packet.now)) (λ f. rest_checked own packet.now ≡ Err f) }
 {
     let short = packet.len() < INPUTS_AT;
     if short {
         return Err(Fault::CutShort(packet.len()));
     }
-    let unmade = u32::get(packet, ACK_AT) > own;
+    let ack = u32::get(packet, ACK_AT);
+    let unmade = ack > own;
     if unmade {
         return Err(Fault::Unmade);
     }
-    let end = INPUTS_AT + usize::from(packet[COUNT_AT]);
-    let there = packet.len().min(end);
-    if let Some(bad) = find_bad(&packet[INPUTS_AT..there]) {
+    let end = INPUTS_AT + usize::from(count);
+    let inputs = &packet[INPUTS_AT..packet.len().min(end)];
+    if let Some(bad) = find_bad(inputs) {
         return Err(Fault::BadInput(INPUTS_AT + bad));
     }
     match packet.len().cmp(&end) {
         Ordering::Less => Err(Fault::CutShort(packet.len())),
-        Ordering::Equal => Ok(()),
+        Ordering::Equal => Ok((ack, inputs)),
         Ordering::Greater => Err(Fault::TooLong(end)),
     }
 }
@@ -71,18 +73,14 @@ fn check_rest(packet: &[u8], own: u32) -> Result<(), Fault>
 impl<'a> Packet<'a> {
     // Bytes as a packet for a peer that has made so many inputs; or their fault at the lowest place.
     // A packet that is taken is written as those very bytes.
-    #[tactic(auto, using(crate::proofs::Checks::started, crate::proofs::Checks::ended), unfolding(crate::specs::Wire::reading))]
+    #[tactic(auto, unfolding(crate::specs::Wire::reading))]
     pub fn read(packet: &'a [u8], own: u32) -> Result<Packet<'a>, Fault>
         ensures value { read_as result ≡ reading own packet.now }
         ensures proper { IfOk result (λ p. Proper own (message_of p)) }
         ensures back { IfOk result (λ p. message_bytes (message_of p) ≡ packet.now) }
     {
-        check_start(packet)?;
-        check_rest(packet, own)?;
-        Ok(Packet {
-            first: u32::get(packet, FIRST_AT),
-            ack: u32::get(packet, ACK_AT),
-            inputs: &packet[INPUTS_AT..],
-        })
+        let (first, count) = read_start(packet)?;
+        let (ack, inputs) = read_rest(packet, own, count)?;
+        Ok(Packet { first, ack, inputs })
     }
 }
