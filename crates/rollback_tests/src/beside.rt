@@ -1,14 +1,12 @@
 // The peer that goes back beside the naive one: after each of a row of random events both have said, have and show the same.
+use crate::machine::Machine;
 use crate::naive::{Naive, Told, taken_for};
 use crate::random::{bytes_for, next, pick};
 use crate::trail::Trail;
 use court_game::entry::Held;
 use game::saved::SavedGame;
 use game::seat::Seat;
-use peer::Peer;
 use rollback::Outcome;
-use rollback::events::{begin, receive, tick};
-use rollback::shown::shown;
 use std::alloc::Global;
 use std::process::Abort;
 use std::test::Fail;
@@ -34,43 +32,32 @@ fn same_state<G: SavedGame>(a: G, b: G) -> bool {
 fn step<G: SavedGame>(
     rt: &impl Abort,
     heap: Global,
-    p: &mut Peer,
-    inputs: &mut [u8],
-    states: &mut [u8],
+    machine: &mut Machine,
     naive: &mut Naive,
     seed: u32,
 ) -> Result<Told, Fail> {
     if pick(seed, 2) == 0 {
         let input = pick(next(seed), 17);
-        let said = told(tick::<G>(p, inputs, states, input));
+        let said = told(machine.tick::<G>(input));
         assert_eq!(rt; said, naive.tick(input)?);
         return Ok(said);
     }
     let last = taken_for(naive.other.as_slice(), naive.other.len());
     let bytes = bytes_for(heap, naive.own.len(), naive.other.len(), last, next(seed))?;
-    let said = told(receive::<G>(p, inputs, states, bytes.as_slice()));
+    let said = told(machine.receive::<G>(bytes.as_slice()));
     assert_eq!(rt; said, naive.receive(bytes.as_slice())?);
     Ok(said)
 }
 
 // Both have the same and show the same.
-fn check_same<G: SavedGame>(
-    rt: &impl Abort,
-    p: &Peer,
-    states: &[u8],
-    naive: &Naive,
-) -> Result<(), Fail> {
+fn check_same<G: SavedGame>(rt: &impl Abort, machine: &Machine, naive: &Naive) -> Result<(), Fail> {
+    let p = machine.p;
     assert_eq!(rt;
         (p.own, p.other, p.acked),
         (naive.own.len(), naive.other.len(), naive.acked)
     );
-    match shown::<G>(p, states) {
-        Ok(state) => {
-            assert!(rt; same_state(state, naive.shows::<G>()));
-            Ok(())
-        },
-        Err(_) => Err(Fail::new("refused")),
-    }
+    assert!(rt; same_state(machine.shown::<G>()?, naive.shows::<G>()));
+    Ok(())
 }
 
 fn beside<G: SavedGame>(
@@ -80,9 +67,7 @@ fn beside<G: SavedGame>(
     window: usize,
     seed: u32,
 ) -> Result<(), Fail> {
-    let mut inputs = vec![in heap; 7u8; 2_000_000]?;
-    let mut states = vec![in heap; 9u8; 3904]?;
-    let mut p = begin::<G>(seat, window, inputs.as_slice(), states.as_mut_slice())?;
+    let mut machine = Machine::begin::<G>(heap, seat, window, 3904)?;
     let mut naive = Naive::new(heap, seat, window);
     let mut s = seed;
     let mut played = 0usize;
@@ -90,24 +75,16 @@ fn beside<G: SavedGame>(
     let mut refused = 0usize;
     for _ in 0..400u32 {
         s = next(s);
-        let said = step::<G>(
-            rt,
-            heap,
-            &mut p,
-            inputs.as_mut_slice(),
-            states.as_mut_slice(),
-            &mut naive,
-            s,
-        )?;
-        match said {
+        match step::<G>(rt, heap, &mut machine, &mut naive, s)? {
             Told::Taken(frames) => played = played.saturating_add(frames),
             Told::Lost => lost = lost.saturating_add(1),
             Told::Refused => refused = refused.saturating_add(1),
         }
-        check_same::<G>(rt, &p, states.as_slice(), &naive)?;
+        check_same::<G>(rt, &machine, &naive)?;
     }
-    assert!(rt; p.own > 50 && refused > 20, "the game goes on");
-    assert!(rt; played > p.own + 5, "it went back");
+    let own = machine.p.own;
+    assert!(rt; own > 50 && refused > 20, "the game goes on");
+    assert!(rt; played > own + 5, "it went back");
     assert!(rt; lost > 0, "the window is reached");
     Ok(())
 }

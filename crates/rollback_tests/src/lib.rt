@@ -9,6 +9,8 @@ mod beside;
 #[cfg(test)]
 mod examples;
 #[cfg(test)]
+mod machine;
+#[cfg(test)]
 mod naive;
 #[cfg(test)]
 mod random;

@@ -1,10 +1,10 @@
 // A peer as a reader of the rules would write it: its inputs in lists, and what it shows played from the start each time.
-use game::saved::SavedGame;
+use game::rules::Game;
 use game::seat::Seat;
 use std::alloc::Global;
 use std::test::Fail;
 
-// What an event came to.
+// What an event came to: an `Outcome`, but for why something was refused, which this peer does not say.
 #[derive(Clone, Copy, PartialEq, Eq, Debug)]
 pub enum Told {
     Taken(usize),
@@ -23,36 +23,29 @@ pub struct Naive {
 
 // The input that is taken for a frame: what came, else the last that came, or 0.
 pub(crate) fn taken_for(other: &[u8], frame: usize) -> u8 {
-    if frame < other.len() {
-        return other[frame];
-    }
-    match other {
-        [.., last] => *last,
-        [] => 0,
-    }
+    other.get(frame).or(other.last()).copied().unwrap_or(0)
 }
 
-// A packet's first frame and its acknowledgement; or nothing, where it is no packet.
-fn fields(bytes: &[u8]) -> Option<(usize, usize)> {
-    if bytes.len() < 10 || bytes[0] != b'H' {
+// What a packet says.
+#[derive(Clone, Copy)]
+struct Said<'a> {
+    first: usize,
+    ack: usize,
+    inputs: &'a [u8],
+}
+
+// What bytes say, if they are a packet.
+fn read(bytes: &[u8]) -> Option<Said> {
+    let [b'H', f0, f1, f2, f3, count, a0, a1, a2, a3, inputs @ ..] = bytes else {
+        return None;
+    };
+    let first = usize::try_from(u32::from_le_bytes([*f0, *f1, *f2, *f3])).ok()?;
+    let ack = usize::try_from(u32::from_le_bytes([*a0, *a1, *a2, *a3])).ok()?;
+    let many = inputs.len() > 120 || first > 1_000_000 || first + inputs.len() > 1_000_000;
+    if usize::from(*count) != inputs.len() || many || inputs.iter().any(|input| *input > 15) {
         return None;
     }
-    let first = u32::from_le_bytes([bytes[1], bytes[2], bytes[3], bytes[4]]) as usize;
-    let ack = u32::from_le_bytes([bytes[6], bytes[7], bytes[8], bytes[9]]) as usize;
-    let count = bytes.len() - 10;
-    if usize::from(bytes[5]) != count
-        || count > 120
-        || first > 1_000_000
-        || first + count > 1_000_000
-    {
-        return None;
-    }
-    for input in &bytes[10..bytes.len()] {
-        if *input > 15 {
-            return None;
-        }
-    }
-    Some((first, ack))
+    Some(Said { first, ack, inputs })
 }
 
 impl Naive {
@@ -79,20 +72,19 @@ impl Naive {
     }
 
     pub(crate) fn receive(&mut self, bytes: &[u8]) -> Result<Told, Fail> {
-        let Some((first, ack)) = fields(bytes) else {
+        let Some(said) = read(bytes) else {
             return Ok(Told::Refused);
         };
-        if ack > self.own.len() {
+        if said.ack > self.own.len() {
             return Ok(Told::Refused);
         }
         let before = self.other.len();
-        for (at, input) in bytes.iter().enumerate() {
-            let known = self.other.len();
-            if at >= 10 && known >= first && known - first == at - 10 {
+        if let Some(known) = before.checked_sub(said.first) {
+            for input in said.inputs.iter().skip(known) {
                 self.other.push(*input)?;
             }
         }
-        self.acked = self.acked.max(ack);
+        self.acked = self.acked.max(said.ack);
         Ok(Told::Taken(self.changed(before)))
     }
 
@@ -101,22 +93,17 @@ impl Naive {
         let other = self.other.as_slice();
         let old = &other[0..before.min(other.len())];
         let frames = self.own.len();
-        for frame in 0..frames {
-            if taken_for(old, frame) != taken_for(other, frame) {
-                return frames - frame;
-            }
-        }
-        0
+        (0..frames)
+            .find(|frame| taken_for(old, *frame) != taken_for(other, *frame))
+            .map_or(0, |frame| frames - frame)
     }
 
-    pub(crate) fn shows<G: SavedGame>(&self) -> G {
+    pub(crate) fn shows<G: Game>(&self) -> G {
         let mut state = G::start();
         for (frame, own) in self.own.as_slice().iter().enumerate() {
             let other = taken_for(self.other.as_slice(), frame);
-            state = match self.seat {
-                Seat::Left => state.advance(*own, other),
-                Seat::Right => state.advance(other, *own),
-            };
+            let (left, right) = self.seat.in_order(*own, other);
+            state = state.advance(left, right);
         }
         state
     }

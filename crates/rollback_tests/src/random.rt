@@ -6,21 +6,10 @@ pub(crate) fn next(seed: u32) -> u32 {
     seed.wrapping_mul(1_664_525).wrapping_add(1_013_904_223)
 }
 
-// A number below `most`, from the upper bits, which are the better ones.
+// A number below `most`, from the upper bits, which are the better ones; 0 where there is none.
 pub(crate) fn pick(seed: u32, most: u8) -> u8 {
-    if most == 0 {
-        0
-    } else {
-        (seed / 65536 % u32::from(most)) as u8
-    }
-}
-
-fn put(bytes: &mut Vec<u8>, n: usize) -> Result<(), Fail> {
-    bytes.push((n % 256) as u8)?;
-    bytes.push((n / 256 % 256) as u8)?;
-    bytes.push(0)?;
-    bytes.push(0)?;
-    Ok(())
+    let rest = (seed >> 16).checked_rem(u32::from(most)).unwrap_or(0);
+    u8::try_from(rest).unwrap_or(0)
 }
 
 // A packet's bytes, its inputs often as they are predicted.
@@ -28,9 +17,9 @@ fn packet(heap: Global, first: usize, ack: usize, last: u8, seed: u32) -> Result
     let count = pick(seed, 5);
     let mut bytes = Vec::new(heap);
     bytes.push(b'H')?;
-    put(&mut bytes, first)?;
+    bytes.extend_from_slice(&u32::try_from(first)?.to_le_bytes())?;
     bytes.push(count)?;
-    put(&mut bytes, ack)?;
+    bytes.extend_from_slice(&u32::try_from(ack)?.to_le_bytes())?;
     let mut input = last;
     let mut s = seed;
     for _ in 0..count {
@@ -67,7 +56,7 @@ pub(crate) fn bytes_for(
         }
         4 => {
             let mut bytes = packet(heap, other, ack, last, s)?;
-            let _ = bytes.pop();
+            bytes.pop();
             Ok(bytes)
         }
         _ => packet(heap, other.saturating_sub(back), ack, last, s),
