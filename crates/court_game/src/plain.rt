@@ -41,8 +41,7 @@ pub fn play_frames(frames: &[u8]) -> Result<Court, Unplayed>
     ensures value { IfOk result (λ c. c.state ≡ plays court_game start (map seat_0 frames.now) (map seat_1 frames.now)) }
     ensures inside { IfOk result (λ c. InCourt c.state) }
 {
-    let many = frames.len() > MOST_FRAMES;
-    if many {
+    if frames.len() > MOST_FRAMES {
         return Err(Unplayed::TooMany);
     }
     Ok(game::plain::play_frames(Held(Court::new()), frames).0)
