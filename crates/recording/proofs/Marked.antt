@@ -135,30 +135,34 @@ pub record Turned (fs states : List ℕ) (state : State) (j : ℕ) (saved fs_nex
   pub due_is : state_bytes state ≡ part (marks fs (length fs / 600)) (64 * j) 64
   pub left_is : states_next ≡ drop (64 * (j + 1)) states
 
-pub turned : (fs states : List ℕ) (s t : State) (j : ℕ) (fs_left states_left next saved fs_next states_next : List ℕ) → Compared fs states s j fs_left states_left → fs_left ≡ next ++ fs_next → length next ≡ 600 → states_left ≡ saved ++ states_next → length saved ≡ min 64 (length states_left) → t ≡ plays court_game s (map seat_0 next) (map seat_1 next) → Turned fs states t j saved fs_next states_next
-turned fs states s t j fs_left states_left next saved fs_next states_next c e m f n is =
-    let more = played_more fs s t j fs_left next fs_next c.played e m is in
+-- by what the iterators gave: 600 frames, and up to 64 bytes
+pub turned : (fs states : List ℕ) (s t : State) (j : ℕ) (fs_left states_left next saved fs_next states_next : List ℕ) (m n : ℕ) → Compared fs states s j fs_left states_left → (fs_left ≡ next ++ fs_next) × (length next ≡ m) → m ≡ 600 → (states_left ≡ saved ++ states_next) × (length saved ≡ min n (length states_left)) × (0 < length states_left) → n ≡ 64 → t ≡ plays court_game s (map seat_0 next) (map seat_1 next) → Turned fs states t j saved fs_next states_next
+turned fs states s t j fs_left states_left next saved fs_next states_next m n c e f g h is =
+    let more = played_more fs s t j fs_left next fs_next c.played e.0 (e.1 ∙ f) is in
     let early = more.within in
-    let h = cut states saved states_next (64 * j) 64 (sym f ∙ c.left_is) (n ∙ ap (λ zs. min 64 (length zs)) c.left_is) in
+    let long = g.1 ∙ ap (λ k. min k (length states_left)) h ∙ ap (λ zs. min 64 (length zs)) c.left_is in
+    let part_is = cut states saved states_next (64 * j) 64 (sym g.0 ∙ c.left_is) long in
     let q : 64 * j + 64 ≡ 64 * (j + 1) = omega arith in
     record {
       played = more;
-      saved_is = h.0;
+      saved_is = part_is.0;
       due_is = ap state_bytes more.state_is ∙ sym (mark_part fs j (length fs / 600) (omega arith));
-      left_is = h.1 ∙ ap (λ i. drop i states) q;
+      left_is = part_is.1 ∙ ap (λ i. drop i states) q;
     }
 
-pub compared_more : (fs states : List ℕ) (t : State) (j : ℕ) (saved fs_next states_next : List ℕ) → Alike states (marks fs (length fs / 600)) (64 * j) → Turned fs states t j saved fs_next states_next → differing saved (state_bytes t) ≡ None → Compared fs states t (j + 1) fs_next states_next
-compared_more fs states t j saved fs_next states_next same c e =
-    let due : List ℕ = marks fs (length fs / 600) in
-    let here = ap (λ zs. differing zs (part due (64 * j) 64)) (sym c.saved_is) ∙ ap (differing saved) (sym c.due_is) ∙ e in
-    let more = alike_on states due (64 * j) 64 same here in
+-- the parts that the code compares are those
+same_parts : (fs states : List ℕ) (t : State) (j : ℕ) (saved bytes fs_next states_next : List ℕ) → Turned fs states t j saved fs_next states_next → bytes ≡ state_bytes t → differing (part states (64 * j) 64) (part (marks fs (length fs / 600)) (64 * j) 64) ≡ differing saved bytes
+same_parts fs states t j saved bytes fs_next states_next c b =
+    ap (λ zs. differing zs (part (marks fs (length fs / 600)) (64 * j) 64)) (sym c.saved_is) ∙ ap (differing saved) (sym (b ∙ c.due_is))
+
+pub compared_more : (fs states : List ℕ) (t : State) (j : ℕ) (saved bytes fs_next states_next : List ℕ) → Alike states (marks fs (length fs / 600)) (64 * j) → Turned fs states t j saved fs_next states_next → bytes ≡ state_bytes t → None ≡ differing saved bytes → Compared fs states t (j + 1) fs_next states_next
+compared_more fs states t j saved bytes fs_next states_next same c b e =
+    let more = alike_on states _ (64 * j) 64 same (same_parts fs states t j saved bytes fs_next states_next c b ∙ sym e) in
     record { played = c.played; left_is = c.left_is; right = λ i l. more i (omega arith) }
 
-pub found : (fs states : List ℕ) (t : State) (j k : ℕ) (saved fs_next states_next : List ℕ) → Alike states (marks fs (length fs / 600)) (64 * j) → Turned fs states t j saved fs_next states_next → differing saved (state_bytes t) ≡ Some k → (differing states (marks fs (length fs / 600)) ≡ Some (64 * j + k)) × (64 * j + k < length states)
-found fs states t j k saved fs_next states_next same c e =
-    let due : List ℕ = marks fs (length fs / 600) in
-    differs_on states due (64 * j) 64 k same (ap (λ zs. differing zs (part due (64 * j) 64)) (sym c.saved_is) ∙ ap (differing saved) (sym c.due_is) ∙ e)
+pub found : (fs states : List ℕ) (t : State) (j k : ℕ) (saved bytes fs_next states_next : List ℕ) → Alike states (marks fs (length fs / 600)) (64 * j) → Turned fs states t j saved fs_next states_next → bytes ≡ state_bytes t → Some k ≡ differing saved bytes → (differing states (marks fs (length fs / 600)) ≡ Some (64 * j + k)) × (64 * j + k < length states)
+found fs states t j k saved bytes fs_next states_next same c b e =
+    differs_on states _ (64 * j) 64 k same (same_parts fs states t j saved bytes fs_next states_next c b ∙ sym e)
 
 -- where there are no more frames for a state, or no more bytes
 pub all_compared : (fs states : List ℕ) (s : State) (j : ℕ) (fs_left states_left : List ℕ) → Compared fs states s j fs_left states_left → (length fs_left < 600) ⊎ (length states_left ≡ 0) → differing states (marks fs (length fs / 600)) ≡ None

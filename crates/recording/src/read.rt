@@ -33,6 +33,7 @@ fn bytes_of(court: Court) -> [u8; STATE_BYTES]
 }
 
 // The header, and the parts behind it, of which the saved states are not judged yet.
+#[tactic(auto, unfolding(crate::specs::Reading::head_checked))]
 fn split_parts(bytes: &[u8]) -> Result<Recording<'_>, Fault>
     ensures { PartsOf bytes.now result }
 {
@@ -47,6 +48,7 @@ fn split_parts(bytes: &[u8]) -> Result<Recording<'_>, Fault>
     if bytes.len() < FRAMES_AT {
         return Err(cut);
     }
+    // The check proves that the cast loses nothing: `try_from` would bring an error that cannot come.
     let count = u32::get(bytes, COUNT_AT) as usize;
     if count > HALF {
         return Err(Fault::TooMany);
@@ -76,6 +78,7 @@ impl<'a> Recording<'a> {
     }
 
     // The saved states, behind frames that are right.
+    #[tactic(auto, using(crate::proofs::Frames::length_marks))]
     fn check_states(&self) -> Result<(), Fault>
         requires { length self.now.frames.now ≤ 1000000 }
         ensures { let due = marks self.now.frames.now (length self.now.frames.now / 600) in result ≡ states_told (8 + length self.now.frames.now) (differing self.now.states.now due) (length self.now.states.now) (length due) }
@@ -93,6 +96,7 @@ impl<'a> Recording<'a> {
     }
 
     // Bytes as a recording, or their first fault. One that is taken is written as those very bytes.
+    #[tactic(auto, unfolding(crate::specs::Reading::reading))]
     pub fn read(bytes: &'a [u8]) -> Result<Recording<'a>, Fault>
         ensures value { read_as result ≡ reading bytes.now }
         ensures proper { IfOk result (λ m. Proper (match_in m)) }

@@ -72,6 +72,7 @@ fn put_confirmed(p: &Peer, inputs: &[u8], frames: &mut [u8])
 
 // Writes the recording of what a peer is sure of, and hands back its length. What lies behind it stays, and a refusal changes
 // nothing.
+#[tactic(auto, using(crate::proofs::Whole::confirmed_is, crate::proofs::Whole::frames_long))]
 pub fn write(p: &Peer, inputs: &[u8], out: &mut [u8]) -> Result<usize, Unwritten>
     ensures answer { result ≡ writing (length inputs.now) (confirmed (log_of p.now inputs.now)) (length out.old) }
     ensures bytes { out.new ≡ written_over (length inputs.now) (match_of p.now.seat p.now.window (log_of p.now inputs.now)) out.old }
@@ -86,6 +87,7 @@ pub fn write(p: &Peer, inputs: &[u8], out: &mut [u8]) -> Result<usize, Unwritten
     }
     let (head, rest) = out.split_at_mut(FRAMES_AT);
     let (frames, states) = rest.split_at_mut(count);
+    // The check proves that these casts lose nothing: `try_from` would bring errors that cannot come.
     put_head(head, p.window as u8, count as u32);
     put_confirmed(p, inputs, frames);
     put_states(frames, states);

@@ -4,13 +4,8 @@ use Rattle.recording.specs.declared.fault.Fault.{Fault}
 use Rattle.recording.specs.Matches.{Match, marks, match_bytes}
 use Rattle.recording.specs.Reading.{match_in, frames_in, due_in, Proper}
 use Rattle.recording.proofs.Checks.{headed, told_as, states_right, frames_there}
-use Rattle.recording.proofs.Readings.{found_in, bad_head, bad_states, all_right, read_back, read_proper}
+use Rattle.recording.proofs.Readings.{found_in, bad_states, all_right, read_back, read_proper}
 use Rattle.recording.proofs.held.Recording.read.Goals as goal
-
-pub returns-in_err-recording-clause-value : goal.returns-in_err-recording-clause-value
-returns-in_err-recording-clause-value c =
-    let p = err_from_is_err_and c.from_residual.result c.from_residual.ensures.1 in
-    rw (p.1, p.2) (sym (bad_head c.args.bytes.now _ c.in_err-recording.ensures))
 
 pub check_states-requires : goal.check_states-requires
 check_states-requires c =

@@ -1,9 +1,8 @@
-use Rattle.std.proofs.Common.{◌≡◌, ◌+◌, ◌*◌, min, length, Some, sym, ap, ◌∙◌, arith, length-drop, inl, inr}
+use Rattle.std.proofs.Common.{◌≡◌, ◌+◌, ◌*◌, length, Some, sym, ap, ◌∙◌, arith, length-drop, inl, inr}
 use Rattle.std.specs.Iterator.Adapters.{enumerate_source, enumerate_count, zip_first, zip_second}
 use Rattle.std.specs.Slice.Iter.{chunks_rest, chunks_size, chunks_exact_rest, chunks_exact_size}
 use Rattle.game.specs.Plain.{plays}
 use Rattle.recording.specs.Matches.{marks}
-use Rattle.recording.specs.Reading.{differing}
 use Rattle.recording.proofs.Marked.{turned, compared_more, found, all_compared}
 use Rattle.recording.proofs.held.Recording.wrong_state.Goals as goal
 
@@ -27,30 +26,27 @@ loop-j-init c =
 pub overflow_add-result : goal.overflow_add-result
 overflow_add-result c =
     let s = c.in-Some.ensures.steps in
-    let before = c.loop-j.invariant.2.2 in
-    let left = chunks_rest (zip_second (enumerate_source c.loop-j.j-iterator)) in
-    let t = turned _ _ _ _ _ _ _ _ _ _ _ before s.0.0.1.0 (s.0.0.1.1 ∙ c.loop-j.invariant.2.0) s.0.1.1.0 (s.0.1.1.1 ∙ ap (λ n. min n (length left)) c.loop-j.invariant.2.1) c.play_frames.ensures in
-    let here = found _ _ _ _ _ _ _ _ before.right t (ap (differing c.in-Some.saved.now) (sym c.bytes_of.ensures) ∙ sym c.in-Some-first_difference.ensures) in
+    let before = c.loop-j.invariant in
+    let t = turned _ _ _ _ _ _ _ _ _ _ _ _ _ before.2.2 s.0.0.1 before.2.0 s.0.1.1 before.2.1 c.play_frames.ensures in
+    let here = found _ _ _ _ _ _ _ _ _ before.2.2.right t c.bytes_of.ensures c.in-Some-first_difference.ensures in
     omega arith
 
 pub returns-in-Some-first_difference : goal.returns-in-Some-first_difference
 returns-in-Some-first_difference c =
     let s = c.in-Some.ensures.steps in
-    let before = c.loop-j.invariant.2.2 in
-    let left = chunks_rest (zip_second (enumerate_source c.loop-j.j-iterator)) in
-    let t = turned _ _ _ _ _ _ _ _ _ _ _ before s.0.0.1.0 (s.0.0.1.1 ∙ c.loop-j.invariant.2.0) s.0.1.1.0 (s.0.1.1.1 ∙ ap (λ n. min n (length left)) c.loop-j.invariant.2.1) c.play_frames.ensures in
-    let here = found _ _ _ _ _ _ _ _ before.right t (ap (differing c.in-Some.saved.now) (sym c.bytes_of.ensures) ∙ sym c.in-Some-first_difference.ensures) in
+    let before = c.loop-j.invariant in
+    let t = turned _ _ _ _ _ _ _ _ _ _ _ _ _ before.2.2 s.0.0.1 before.2.0 s.0.1.1 before.2.1 c.play_frames.ensures in
+    let here = found _ _ _ _ _ _ _ _ _ before.2.2.right t c.bytes_of.ensures c.in-Some-first_difference.ensures in
     ap (λ j. Some (64 * j + c.in-Some-first_difference.at)) s.1 ∙ sym here.0
 
 pub loop-j-preserved : goal.loop-j-preserved
 loop-j-preserved c =
     let s = c.in-Some.ensures.steps in
-    let before = c.loop-j.invariant.2.2 in
-    let left = chunks_rest (zip_second (enumerate_source c.loop-j.j-iterator)) in
-    let t = turned _ _ _ _ _ _ _ _ _ _ _ before s.0.0.1.0 (s.0.0.1.1 ∙ c.loop-j.invariant.2.0) s.0.1.1.0 (s.0.1.1.1 ∙ ap (λ n. min n (length left)) c.loop-j.invariant.2.1) c.play_frames.ensures in
-    let more = compared_more _ _ _ _ _ _ _ before.right t (ap (differing c.in-Some.saved.now) (sym c.bytes_of.ensures) ∙ sym c.in_default.ensures) in
-    let many : chunks_exact_size (zip_first (enumerate_source c.next.new.self)) ≡ 600 = s.0.0.0 ∙ c.loop-j.invariant.2.0 in
-    let big : chunks_size (zip_second (enumerate_source c.next.new.self)) ≡ 64 = s.0.1.0 ∙ c.loop-j.invariant.2.1 in
+    let before = c.loop-j.invariant in
+    let t = turned _ _ _ _ _ _ _ _ _ _ _ _ _ before.2.2 s.0.0.1 before.2.0 s.0.1.1 before.2.1 c.play_frames.ensures in
+    let more = compared_more _ _ _ _ _ _ _ _ before.2.2.right t c.bytes_of.ensures c.in_default.ensures in
+    let many : chunks_exact_size (zip_first (enumerate_source c.next.new.self)) ≡ 600 = s.0.0.0 ∙ before.2.0 in
+    let big : chunks_size (zip_second (enumerate_source c.next.new.self)) ≡ 64 = s.0.1.0 ∙ before.2.1 in
     let frames = ap length more.played.left_is ∙ length-drop (600 * (enumerate_count c.loop-j.j-iterator + 1)) c.args.self.now.frames.now in (
       ((omega arith, omega arith), tt, inl (simp (many, s.2) (omega arith))),
       tt,
