@@ -1,6 +1,7 @@
 -- Frames in bytes, and the states after every 600th. Assumes nothing.
 use Rattle.std.proofs.Common.{◌≡◌, ℕ, zero, suc, ◌+◌, ◌*◌, min, List, [], ◌∷◌, ◌++◌, map, length, set, take, drop, sym, refl, ap, ◌∙◌, add-one, arith, length-append}
-use Rattle.std.proofs.lemmas.List.{append_assoc, append-nil, nil_from_length, take_all, take_more_set, length-map, map-append, take-append-drop, take-take, drop-take}
+use Rattle.std.proofs.Math.Seq.{take-add}
+use Rattle.std.proofs.lemmas.List.{append_assoc, append-nil, nil_from_length, take_all, take_more_set, length-map, map-append, take-take}
 use Rattle.court.specs.declared.state.State.{State}
 use Rattle.court.specs.Frame.{start}
 use Rattle.court_game.specs.Games.{court_game}
@@ -45,21 +46,16 @@ length_frames (x ∷ xs) (y ∷ ys) = let e = length_frames xs ys in omega arith
 -- ---- states
 
 -- some frames more
-pub after_more : (fs gs : List ℕ) → after_frames (fs ++ gs) ≡ plays court_game (after_frames fs) (map seat_0 gs) (map seat_1 gs)
+after_more : (fs gs : List ℕ) → after_frames (fs ++ gs) ≡ plays court_game (after_frames fs) (map seat_0 gs) (map seat_1 gs)
 after_more fs gs =
     ap (λ zs. plays court_game start zs (map seat_1 (fs ++ gs))) (map-append seat_0 fs gs)
     ∙ ap (plays court_game start (map seat_0 fs ++ map seat_0 gs)) (map-append seat_1 fs gs)
     ∙ sym (plays_append court_game start (map seat_0 fs) (map seat_1 fs) (map seat_0 gs) (map seat_1 gs) (length-map fs seat_0 ∙ sym (length-map fs seat_1)))
 
 -- up to a place, and on from there
-pub take_on : (fs : List ℕ) (k n m : ℕ) → k + n ≡ m → take m fs ≡ take k fs ++ take n (drop k fs)
-take_on fs k n m e =
-    sym (take-append-drop k (take m fs))
-    ∙ ap (λ zs. zs ++ drop k (take m fs)) (take-take k m fs (omega arith))
-    ∙ ap (λ zs. take k fs ++ zs) (ap (λ i. drop k (take i fs)) (sym e) ∙ drop-take k n fs)
-
 pub after_on : (fs : List ℕ) (k n m : ℕ) → k + n ≡ m → after_frames (take m fs) ≡ plays court_game (after_frames (take k fs)) (map seat_0 (take n (drop k fs))) (map seat_1 (take n (drop k fs)))
-after_on fs k n m e = ap after_frames (take_on fs k n m e) ∙ after_more (take k fs) (take n (drop k fs))
+after_on fs k n m e =
+    ap (λ i. after_frames (take i fs)) (sym e) ∙ ap after_frames (take-add k n fs) ∙ after_more (take k fs) (take n (drop k fs))
 
 -- on to the next saved state, with the 600 frames from the last one on
 pub after_part : (fs next : List ℕ) (j k : ℕ) (s t : State) → k ≡ 600 → next ≡ take k (drop (600 * j) fs) → s ≡ after_frames (take (600 * j) fs) → t ≡ plays court_game s (map seat_0 next) (map seat_1 next) → t ≡ after_frames (take (600 * (j + 1)) fs)
@@ -84,7 +80,7 @@ length_marks fs (suc m) =
     omega (arith, length-append (marks fs m) s)
 
 -- frames as far as both seats have inputs
-pub frames_min : (xs ys : List ℕ) (n : ℕ) → n ≡ min (length xs) (length ys) → frame_bytes (take n xs) (take n ys) ≡ frame_bytes xs ys
+frames_min : (xs ys : List ℕ) (n : ℕ) → n ≡ min (length xs) (length ys) → frame_bytes (take n xs) (take n ys) ≡ frame_bytes xs ys
 unfolding frame_bytes
 frames_min [] ys zero e = refl
 frames_min [] ys (suc n) e = refl

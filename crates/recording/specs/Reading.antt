@@ -1,6 +1,7 @@
 -- How bytes are read as a recording or refused. Assumes nothing: these are definitions.
 use Rattle.std.specs.Prelude.{◌≡◌, ℕ, ◌+◌, ◌/◌, ◌<◌, ◌≤◌, cond, not, ◌||◌, List, [], ◌∷◌, length, drop, position, Option, Some, None, Ok, Err, Result, MatchResult, ◌==◌, nat_lt, slice_index}
 use Rattle.std.specs.List.{zip}
+use Rattle.std.specs.Result.{result_and}
 use Rattle.byte_numbers.specs.Little.{number_of, part}
 use Rattle.recording.specs.declared.fault.Fault.{Fault}
 use Rattle.recording.specs.declared.fault.Fault.TheVariants.{NoMark, CutShort, Window, TooMany, WrongState, TooLong}
@@ -70,12 +71,8 @@ unfoldable pub states_checked : List ℕ → Result (Unit {0}) Fault
 states_checked xs = states_told (8 + count_in xs) (differing (states_in xs) (due_in xs)) (length (states_in xs)) (length (due_in xs))
 
 -- one check behind the other: the first refusal counts
-abbrev pub and_then : {A B E : Type 0} → Result A E → Result B E → Result B E
-and_then (Ok a) next = next
-and_then (Err f) next = Err f
-
 unfoldable pub reading : List ℕ → Result Match Fault
-reading xs = and_then (head_checked xs) (and_then (states_checked xs) (Ok (record { window = window_in xs; frames = frames_in xs })))
+reading xs = result_and (head_checked xs) (result_and (states_checked xs) (Ok (record { window = window_in xs; frames = frames_in xs })))
 
 -- ---- what the reader hands back
 
