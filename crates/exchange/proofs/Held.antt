@@ -1,13 +1,12 @@
 -- Both machines' memory along a row of moves. Assumes nothing.
 use Rattle.std.proofs.Common.{◌≡◌, ℕ, Vec, Global, ◌+◌, ◌<◌, ◌≤◌, Bool, true, false, cond, leb, List, [], ◌∷◌, ◌++◌, map, length, get_or, take, sym, refl, ap, ◌∙◌, subst, arith}
 use Rattle.std.proofs.lemmas.List.{take_more}
-use Rattle.std.proofs.lemmas.Bool.{leb-true}
 use Rattle.court_game.specs.Games.{court_game}
 use Rattle.court_game.specs.Saved.{court_saved}
 use Rattle.court.specs.declared.state.State.{State}
 use Rattle.game.specs.declared.seat.Seat.{Seat}
 use Rattle.game.specs.declared.seat.Seat.TheVariants.{Left, Right}
-use Rattle.network.specs.Network.{Network, Turn, peer_at, with_peer, with_packet, written, new_network, turn, turns}
+use Rattle.network.specs.Network.{Network, Turn, facing, peer_at, packets_to, new_network, turn, turns}
 use Rattle.network.specs.Network as network
 use Rattle.network.specs.Promise.{Came}
 use Rattle.network.proofs.Arrivals.{both_sure}
@@ -15,12 +14,13 @@ use Rattle.network.proofs.Networks.{same_inputs, one_game}
 use Rattle.network.proofs.Rows.{turns_push, not_far}
 use Rattle.packet.specs.Wire.{message_bytes}
 use Rattle.peer.specs.Lent.{log_of}
-use Rattle.peer.specs.Peers.{Log, tick, event, confirmed}
+use Rattle.peer.specs.Peers.{Log, confirmed}
 use Rattle.rollback.specs.Rows.{Memory, StandsFor}
 use Rattle.exchange.specs.declared.moves.Move.{Move}
 use Rattle.exchange.specs.declared.moves.Act.{Act}
 use Rattle.exchange.specs.declared.moves.Act.TheVariants.{Tick, Deliver}
 use Rattle.exchange.specs.Agreed.{Agree}
+use Rattle.exchange.proofs.Machines.{narrow}
 use Rattle.exchange.specs.Moves.{court_network, court_turn, sends_at, acted, moves_on, after_moves, PeerAt, PacketsAt}
 
 -- both memories, and all packets, are those of a network
@@ -33,57 +33,34 @@ pub record Holds (window : ℕ) (n : Network) (left right : Memory) (to_left to_
 -- ---- what a move leaves
 
 -- the other machine, and the packets to the one that it happens at
-left_leaves : (window : ℕ) (n : Network) (act : Act) → ((acted window n Left act).right ≡ n.right) × ((acted window n Left act).to_left ≡ n.to_left)
+leaves : (window : ℕ) (n : Network) (seat : Seat) (act : Act) → (peer_at (acted window n seat act) (facing seat) ≡ peer_at n (facing seat)) × (packets_to (acted window n seat act) seat ≡ packets_to n seat)
 unfolding acted turn
-left_leaves window n (Tick a) = (by (leb a 15), by-packets (leb a 15))
+leaves window n seat (Tick a) = by seat (leb a 15)
   where
-    t : Network
-    t = with_peer n Left (event (λ b. leb b 15) window n.left (tick a))
+    ticked : Seat → Network
+    ticked at = court_turn window n (network.tick at a)
 
-    u : Network
-    u = with_packet t Right (written t.left t.left.acked 120)
-
-    by : (b : Bool) → (cond b u t).right ≡ n.right
-    by true = refl
-    by false = refl
-
-    by-packets : (b : Bool) → (cond b u t).to_left ≡ n.to_left
-    by-packets true = refl
-    by-packets false = refl
-left_leaves window n (Deliver k) = (refl, refl)
-
-right_leaves : (window : ℕ) (n : Network) (act : Act) → ((acted window n Right act).left ≡ n.left) × ((acted window n Right act).to_right ≡ n.to_right)
-unfolding acted turn
-right_leaves window n (Tick a) = (by (leb a 15), by-packets (leb a 15))
-  where
-    t : Network
-    t = with_peer n Right (event (λ b. leb b 15) window n.right (tick a))
-
-    u : Network
-    u = with_packet t Left (written t.right t.right.acked 120)
-
-    by : (b : Bool) → (cond b u t).left ≡ n.left
-    by true = refl
-    by false = refl
-
-    by-packets : (b : Bool) → (cond b u t).to_right ≡ n.to_right
-    by-packets true = refl
-    by-packets false = refl
-right_leaves window n (Deliver k) = (refl, refl)
+    by : (at : Seat) (b : Bool) → (peer_at (cond b (sends_at window (ticked at) at) (ticked at)) (facing at) ≡ peer_at n (facing at)) × (packets_to (cond b (sends_at window (ticked at) at) (ticked at)) at ≡ packets_to n at)
+    by Left true = (refl, refl)
+    by Left false = (refl, refl)
+    by Right true = (refl, refl)
+    by Right false = (refl, refl)
+leaves window n Left (Deliver k) = (refl, refl)
+leaves window n Right (Deliver k) = (refl, refl)
 
 -- ---- both machines, move by move
 
 pub holds_left : (window : ℕ) (n : Network) (act : Act) (l k r : Memory) (tl tr ur : List (Vec ℕ Global)) → Holds window n l r tl tr → PeerAt window (acted window n Left act) Left k × PacketsAt (acted window n Left act) Right ur → Holds window (acted window n Left act) k r tl ur
 holds_left window n act l k r tl tr ur h did =
-    let leaves = left_leaves window n act in
+    let same = leaves window n Left act in
     let P : Log → Type 0 = λ log. StandsFor court_saved Right window log r in
-    record { left_at = did.0; right_at = subst P (sym leaves.0) h.right_at; left_packets = h.left_packets ∙ ap (map message_bytes) (sym leaves.1); right_packets = did.1 }
+    record { left_at = did.0; right_at = subst P (sym same.0) h.right_at; left_packets = h.left_packets ∙ ap (map message_bytes) (sym same.1); right_packets = did.1 }
 
 pub holds_right : (window : ℕ) (n : Network) (act : Act) (l r k : Memory) (tl tr ul : List (Vec ℕ Global)) → Holds window n l r tl tr → PeerAt window (acted window n Right act) Right k × PacketsAt (acted window n Right act) Left ul → Holds window (acted window n Right act) l k ul tr
 holds_right window n act l r k tl tr ul h did =
-    let leaves = right_leaves window n act in
+    let same = leaves window n Right act in
     let P : Log → Type 0 = λ log. StandsFor court_saved Left window log l in
-    record { left_at = subst P (sym leaves.0) h.left_at; right_at = did.0; left_packets = did.1; right_packets = h.right_packets ∙ ap (map message_bytes) (sym leaves.1) }
+    record { left_at = subst P (sym same.0) h.left_at; right_at = did.0; left_packets = did.1; right_packets = h.right_packets ∙ ap (map message_bytes) (sym same.1) }
 
 moves_push : (window : ℕ) (n : Network) (ms : List Move) (m : Move) → moves_on window n (ms ++ m ∷ []) ≡ acted window (moves_on window n ms) m.seat m.act
 unfolding moves_on
@@ -124,9 +101,6 @@ unfolding turns
 after_network window ms = moves_network window new_network ms ([], refl)
 
 -- ---- so both agree
-
-narrow : (a : ℕ) → leb a 15 ≡ true → a ≤ 15
-narrow a e = leb-true a 15 e
 
 network_agrees : (window : ℕ) (ts : List Turn) → Agree window (court_network window ts).left (court_network window ts).right
 network_agrees window ts =

@@ -198,7 +198,8 @@ delivered_none window n seat number ps m h at s =
     let P : Log → Type 0 = λ l. StandsFor court_saved seat window l m in
     subst P (sym same) s
 
-narrow : (a : ℕ) → leb a 15 ≡ true → a ≤ 15
+-- the inputs that fit are those up to 15
+pub narrow : (a : ℕ) → leb a 15 ≡ true → a ≤ 15
 narrow a e = leb-true a 15 e
 
 -- what is said of a packet that is read
