@@ -190,7 +190,7 @@ fn print_side(rt: &HostRuntime, name: &str, side: Played, states: &[u8]) -> anyh
                 tally.lost, tally.refused, tally.played, tally.again
             )?;
         }
-        Err(f) => println!(rt; "refused {} at {}", f.number(), f.place())?,
+        Err(refused) => println!(rt; "{refused}")?,
     }
     Ok(())
 }
@@ -243,8 +243,8 @@ fn run_one(rt: &HostRuntime, o: Options) -> anyhow::Result<()> {
         moves.as_slice(),
     ) {
         Ok(both) => both,
-        Err(Unplayed::Refused(f)) => {
-            println!(rt; "refused {} at {}", f.number(), f.place())?;
+        Err(Unplayed::Refused(refused)) => {
+            println!(rt; "{refused}")?;
             bail!("refused");
         }
         Err(Unplayed::NoMemory) => bail!("radio: no memory"),
