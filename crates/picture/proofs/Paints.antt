@@ -17,14 +17,6 @@ unfolding in_run
 run_painted xs ys r v i h k n e =
     let at : (i - r.from) < r.to - r.from → get_or ys (i - r.from) 0 ≡ v = e (i - r.from) in grind (arith, places, nat_tests)
 
-pub starts : (r : Run) (i : ℕ) → true ≡ in_run r i → r.from ≤ i
-unfolding in_run
-starts r i h = grind (arith, nat_tests)
-
-pub ends : (r : Run) (i : ℕ) → true ≡ in_run r i → i < r.to
-unfolding in_run
-ends r i h = grind (arith, nat_tests)
-
 pub set_is : (xs : List ℕ) (k v i : ℕ) → k < length xs → get_or (set xs k v) i 0 ≡ cond (eqb i k) v (get_or xs i 0)
 set_is xs k v i h = let s = get_or-set_same xs k v 0 h in let q = cases_eq i k in grind (arith, places, nat_tests)
 
@@ -35,15 +27,7 @@ blank n i = let q = cases_lt i n in grind (arith, get_or-replicate, get_or_past,
 pub over : (a : Bool) (v : ℕ) {x g h : ℕ} → x ≡ cond a v g → g ≡ h → x ≡ cond a v h
 over a v e k = e ∙ ap (cond a v) k
 
--- ---- a test that is known, beside one that is not
-
-pub both : (a b : Bool) (v g : ℕ) → b ≡ true → cond a v g ≡ cond (a && b) v g
-both true b v g e = simp e
-both false b v g e = refl
-
-pub neither : (a b : Bool) (v g : ℕ) → b ≡ false → g ≡ cond (a && b) v g
-neither true b v g e = simp e
-neither false b v g e = refl
+-- ---- one test or another
 
 pub either : (a b : Bool) (v g : ℕ) → cond b v (cond a v g) ≡ cond (a || b) v g
 either true true v g = refl

@@ -2,6 +2,7 @@
 ghost use Rattle.picture.specs.Picture.{PaddleFirst, BallNext, DotsInPlace, Whole};
 
 // What lies over what: the paddles over the ball, and the ball over the rest.
+#[tactic(auto, unfolding(crate::specs::Picture::dot))]
 pub fn paddle_first()
     ensures paddle { PaddleFirst }
     ensures ball { BallNext }

@@ -1,4 +1,4 @@
-use Rattle.std.proofs.Common.{◌≡◌, ℕ, ◌+◌, ◌-◌, ◌*◌, ◌≤◌, true, leb, ◌++◌, length, drop, sym, refl, ap, ◌∙◌, arith}
+use Rattle.std.proofs.Common.{◌≡◌, ℕ, ◌+◌, ◌-◌, ◌*◌, ◌≤◌, true, leb, ◌++◌, length, drop, sym, ap, ◌∙◌, arith}
 use borrow.Rule.Slice.PartMut.{put_mid}
 use Rattle.std.proofs.lemmas.Bool.{le-leb}
 use Rattle.picture.specs.Picture.{rows_of, picture_of}
@@ -15,13 +15,10 @@ loop-j-preserved c =
 pub loop-j-init : goal.loop-j-init
 loop-j-init c = ap (λ l. l ++ c.args.picture.now) (sym (rows_none c.args.court.state))
 
-pub returns : goal.returns
+pub returns-clause-picture : goal.returns-clause-picture
 unfolding picture_of
-returns c =
+returns-clause-picture c =
     let n : 19200 ≤ length c.args.picture.now = omega (arith, c.if-short.false) in
     let t : leb 19200 (length c.args.picture.now) ≡ true = le-leb 19200 (length c.args.picture.now) n in
     let e : c.loop-j.j ≡ 120 = omega arith in
-    record {
-      value = simp t refl;
-      picture = simp t (c.loop-j.invariant ∙ ap (λ (j : ℕ). rows_of c.args.court.state 0 j ++ drop (160 * j) c.args.picture.now) e);
-    }
+    simp t (c.loop-j.invariant ∙ ap (λ (j : ℕ). rows_of c.args.court.state 0 j ++ drop (160 * j) c.args.picture.now) e)

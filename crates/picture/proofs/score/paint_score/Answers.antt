@@ -1,22 +1,7 @@
-use Rattle.std.proofs.Common.{◌<◌, ◌≤◌, cond, get_or, ap, ◌∙◌, arith}
+use Rattle.std.proofs.Common.{cond, get_or, ap, ◌∙◌}
 use Rattle.picture.specs.Picture.{glyphs, in_digit}
-use Rattle.picture.proofs.Paints.{starts, ends, digit_in, digit_out, either}
+use Rattle.picture.proofs.Paints.{digit_in, digit_out, either}
 use Rattle.picture.proofs.score.paint_score.Goals as goal
-
-pub overflow_sub-k : goal.overflow_sub-k
-overflow_sub-k c = starts (record { from = 4; to = 9 }) c.args.j c.if-crosses.ensures
-
-pub bounds-k : goal.bounds-k
-bounds-k c =
-    let a : 4 ≤ c.args.j = starts (record { from = 4; to = 9 }) c.args.j c.if-crosses.ensures in
-    let b : c.args.j < 9 = ends (record { from = 4; to = 9 }) c.args.j c.if-crosses.ensures in
-    omega arith
-
-pub bounds-k-then-crosses : goal.bounds-k-then-crosses
-bounds-k-then-crosses c =
-    let a : 4 ≤ c.args.j = starts (record { from = 4; to = 9 }) c.args.j c.if-crosses.ensures in
-    let b : c.args.j < 9 = ends (record { from = 4; to = 9 }) c.args.j c.if-crosses.ensures in
-    omega arith
 
 pub returns-then-crosses : goal.returns-then-crosses
 unfolding glyphs
