@@ -13,6 +13,7 @@ use std::process::ExitCode;
 
 const USAGE: &str = "usage: bench pictures|packets COUNT";
 
+// Casts here lose nothing, which the check proves; no `From` narrows.
 fn input(n: u32) -> Input {
     Input((n % 16) as u8)
 }

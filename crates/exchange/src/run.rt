@@ -65,7 +65,8 @@ impl From<Refused> for Unplayed {
 // Both machines begin, and all moves are made. Whatever the radio loses, doubles, delays or exchanges: both memories are those of the
 // network after these moves, and both are sure of one and the same game; of all frames that both had played when a packet of each
 // was written that then came to the other.
-// The lent slices are parameters each: of a struct by value the clauses would name them by their places, as left.exit.0.
+// Each lent slice is a parameter: clauses would call what a struct of them leaves `left.exit.0`, and by `&mut` it cannot be passed on to
+// `begin` yet.
 pub fn play_moves(
     heap: Global,
     window: usize,
@@ -83,7 +84,7 @@ pub fn play_moves(
     ensures sure { IfOk result (λ b. (m : ℕ) (ts : List Turn) → after_moves window row.now ≡ court_network window ts → ((seat : At) → Came (λ a. nat_le a 15) window m ts seat) → (m ≤ confirmed (log_of b.left.peer left_inputs.new)) × (m ≤ confirmed (log_of b.right.peer right_inputs.new))) }
 {
     let peer = begin(Seat::Left, window, left_inputs, left_states, picture)?;
-    // No function makes a machine: a Result of one gets no proof, and after a plain call what the loop left in memory is not known.
+    // No function makes a machine: a Result of one is not covered, and after any other call the memory that the loop leaves is not known.
     let mut left = Machine {
         peer,
         inputs: left_inputs,
@@ -100,6 +101,7 @@ pub fn play_moves(
     let mut to_left = Vec::new(heap);
     let mut to_right = Vec::new(heap);
     for step in row {
+        // `in_order` of references to machines is not covered.
         match step.seat {
             Seat::Left => left.act(step.act, to_left.as_slice(), &mut to_right)?,
             Seat::Right => right.act(step.act, to_right.as_slice(), &mut to_left)?,

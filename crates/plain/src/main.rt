@@ -21,6 +21,7 @@ const USAGE: &str = "usage: plain FILE [show]";
 fn read_frames(rt: &HostRuntime, path: &str) -> io::Result<Vec<u8>> {
     let mut frames = Vec::new(rt.alloc());
     let file = File::open(rt, path)?;
+    // There is no `From` of a usize for a u64.
     file.take(MOST_FRAMES as u64 + 1).read_to_end(&mut frames)?;
     Ok(frames)
 }
