@@ -1,26 +1,12 @@
 use Rattle.std.proofs.Common.{◌≡◌, ℕ, ◌+◌, ◌%◌, ◌≤◌, min, length, get_or, sym, ap, ◌∙◌, arith, rules}
 use native.Mathlib.Nat.{zero-mod}
 use Rattle.peer.specs.Lent.{seated, after}
-use Rattle.rollback.proofs.Happens.{checked_room, begin_window, begin_memory}
 use Rattle.peer.proofs.Logs.{log_new}
 use Rattle.peer.proofs.Shows.{after_none}
 use Rattle.rollback.specs.Saved.{slot}
 use Rattle.rollback.proofs.Bytes.{slot_same, slot_behind}
-use Rattle.rollback.proofs.Windows.{saved_one, saved_as}
+use Rattle.rollback.proofs.Windows.{checked_room, saved_one, saved_as}
 use Rattle.rollback.proofs.events.begin.Goals as goal
-
-pub returns-in_err-p-clause-answer : goal.returns-in_err-p-clause-answer
-returns-in_err-p-clause-answer g c =
-    let e = begin_window c.args.window (length c.args.inputs.now) (length c.args.states.now) _ c.in_err-p.ensures.answer in
-    grind arith
-
-pub returns-in_err-check_memory-clause-answer : goal.returns-in_err-check_memory-clause-answer
-returns-in_err-check_memory-clause-answer g c =
-    let e = begin_memory c.args.window (length c.args.inputs.now) (length c.args.states.now) c.in_ok-p.ensures.answer in
-    grind arith
-
-pub returns-clause-answer : goal.returns-clause-answer
-returns-clause-answer g c = c.in_ok-check_memory.ensures ∙ sym (begin_memory _ _ _ c.in_ok-p.ensures.answer)
 
 pub returns-clause-begun : goal.returns-clause-begun
 returns-clause-begun g c =

@@ -1,7 +1,7 @@
 use Rattle.std.proofs.Common.{ℕ, get_or, ap, ◌∙◌}
 use Rattle.peer.specs.Lent.{seated, own_at}
 use Rattle.rollback.specs.Saved.{with_slot}
-use Rattle.rollback.proofs.Seats.{seated_frame}
+use Rattle.peer.proofs.Shows.{seated_frame}
 use Rattle.rollback.proofs.frames.Going.play_frame.Goals as goal
 
 pub returns-clause-state : goal.returns-clause-state
