@@ -1,6 +1,7 @@
 // Lent memory, as each call tests it.
-ghost use Rattle.std.specs.Prelude.{◌≡◌, ◌≤◌, length};
+ghost use Rattle.std.specs.Prelude.{◌≡◌, ◌≤◌, OnOk, length};
 ghost use Rattle.rollback.specs.Said.{memory_checked};
+ghost use Rattle.rollback.specs.Saved.{Roomy};
 
 use peer::Refusal;
 use peer::memory::{check_inputs, check_states};
@@ -8,7 +9,8 @@ use peer::memory::{check_inputs, check_states};
 #[tactic(auto, using(std::proofs::lemmas::Bool::Decides::nat_tests))]
 pub(crate) fn check_memory(window: usize, inputs: &[u8], states: &[u8]) -> Result<(), Refusal>
     requires { window ≤ 60 }
-    ensures { result ≡ memory_checked window (length inputs.now) (length states.now) }
+    ensures answer { result ≡ memory_checked window (length inputs.now) (length states.now) }
+    ensures room { OnOk result (Roomy window inputs.now states.now) }
 {
     check_inputs(inputs)?;
     check_states(window, states)

@@ -14,6 +14,7 @@ pub(crate) fn slot_of(p: &Peer, frames: usize) -> usize
 }
 
 // Writes one slot. No other byte changes.
+#[tactic(auto, unfolding(crate::specs::Saved::with_slot))]
 pub(crate) fn save_at<G: SavedGame>(states: &mut [u8], slot: usize, state: G)
     requires { slot * 64 + 64 ≤ length states.old }
     ensures { states.new ≡ with_slot states.old slot (G.saved.coded (G.state state)) }
@@ -22,6 +23,7 @@ pub(crate) fn save_at<G: SavedGame>(states: &mut [u8], slot: usize, state: G)
     state.save(&mut states[at..at + STATE_BYTES]);
 }
 
+#[tactic(auto, unfolding(crate::specs::Saved::slot))]
 pub(crate) fn load_at<G: SavedGame>(states: &[u8], slot: usize) -> G
     requires { slot * 64 + 64 ≤ length states.now }
     ensures { (s : G.states) → G.saved.ok s → slot_in states.now slot ≡ G.saved.coded s → G.state result ≡ s }

@@ -14,6 +14,7 @@ pub fn same_shown<G: SavedGame>()
 {}
 
 // Playing on from any state that it has saved leads to what it shows.
+#[tactic(auto, using(crate::proofs::Rowed::plays_on))]
 pub fn plays_on<G: SavedGame>()
     ensures { PlaysOn G.saved }
 {}

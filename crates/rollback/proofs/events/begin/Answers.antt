@@ -20,8 +20,8 @@ returns-clause-begun g c =
     let saved = c.save_at.new.states in
     let s = g.G.SavedGame.state c.start.result in
     let (seat_is, window_is, own, other, acked) = c.in_ok-p.ensures.new in
-    let room = checked_room window (length xs) (length states) c.in_ok-check_memory.ensures in
-    let few : 64 ≤ length states = omega (arith, room.1) in
+    let room = c.in_ok-check_memory.ensures.room in
+    let few : 64 ≤ length states = omega (arith, room.states_long) in
     let first : slot saved (0 % (window + 1)) ≡ r.coded (after (seated seat r.game) xs 0 0) =
     ap (slot saved) (zero-mod (window + 1))
     ∙ ap (λ zs. slot zs 0) c.save_at.ensures
@@ -32,7 +32,7 @@ returns-clause-begun g c =
     record {
       seat_is = seat_is;
       window_is = window_is;
-      roomy = record { inputs_long = room.0; states_long = search rules };
+      roomy = record { inputs_long = room.inputs_long; states_long = search rules };
       log_is = log_new p xs own other acked;
       kept = saved_as r seat p.seat window p.window xs xs 0 p.other saved 0 (min p.own p.other) 0 p.own seat_is window_is (omega arith) (omega (arith, own)) none one;
     }
@@ -43,5 +43,5 @@ returns-clause-behind g c =
     let law = g.met.G.SavedGame.lawful in
     let states = c.args.states.now in
     let s = g.G.SavedGame.state c.start.result in
-    let room = checked_room c.args.window _ (length states) c.in_ok-check_memory.ensures in
-    λ i h. ap (λ zs. get_or zs i 0) c.save_at.ensures ∙ slot_behind states (r.coded s) 0 1 (omega arith) (omega (arith, room.1)) (law.long s) i h
+    let room = c.in_ok-check_memory.ensures.room in
+    λ i h. ap (λ zs. get_or zs i 0) c.save_at.ensures ∙ slot_behind states (r.coded s) 0 1 (omega arith) (omega (arith, room.states_long)) (law.long s) i h
