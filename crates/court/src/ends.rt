@@ -1,7 +1,7 @@
 // Step 5 of a frame: the ball past an end of the court.
 ghost use Rattle.std.specs.Prelude.{◌≡◌, ◌<◌, ◌≤◌};
 ghost use Rattle.court.specs.Bounds.{InPlay};
-ghost use Rattle.court.specs.Frame.{in_goal, awarded, serve_ball, scored, turned, end_met, ends_met};
+ghost use Rattle.court.specs.Frame.{in_goal, awarded, serve_ball, scored, end_at, turned, end_met, ends_met};
 
 use crate::ball::into_court;
 use crate::bounded::Court;
@@ -50,6 +50,16 @@ fn serve(out: Side, score: Score) -> Ball
     }
 }
 
+// Where the ball's middle is as it touches an end.
+fn end_x(end: Side) -> i32
+    ensures { result ≡ end_at end }
+{
+    match end {
+        Side::Left => BALL_X.least,
+        Side::Right => BALL_X.most,
+    }
+}
+
 // A state in the middle of a frame, of a game that is not over.
 #[derive(Clone, Copy)]
 pub(crate) struct Rally {
@@ -74,12 +84,8 @@ impl Rally {
         ensures { result ≡ turned end self.state.ball }
     {
         let b = self.state.ball;
-        let x = match end {
-            Side::Left => BALL_X.least,
-            Side::Right => BALL_X.most,
-        };
         Ball {
-            x,
+            x: end_x(end),
             dx: into_court(end, b.dx.abs()),
             ..b
         }
