@@ -1,4 +1,6 @@
 // What a peer does: it begins, ticks and takes in packets. The memory that it is lent is tested at each call.
+// The numbers, the inputs and the states are passed one by one: the borrow checker does not cover a method that passes on two
+// fields of one struct of three `&mut`.
 ghost use Rattle.std.specs.Prelude.{◌≡◌, ℕ, ◌+◌, ◌<◌, ◌≤◌, true, length, is_err, OnOk, IfOk, IfErr, Ok, ◌≢◌};
 ghost use Rattle.packet.specs.Wire.{Proper, message_of, reading};
 ghost use Rattle.rollback.specs.declared.outcome.Outcome.TheVariants.{Taken, Refused};
@@ -115,6 +117,7 @@ fn read_packet<'a>(
     ensures refused { IfErr result (λ f. Refused f ≡ said_arrival p.now.window (length inputs.now) (length states.now) (log_of p.now inputs.now) bytes.now) }
 {
     check_memory(p.window, inputs, states)?;
+    // No conversion that can fail, since a peer has at most 1,000,000 inputs.
     Packet::read(bytes, p.own as u32).map_err(Refusal::Packet)
 }
 

@@ -5,7 +5,7 @@ use Rattle.peer.proofs.Logs.{log_new}
 use Rattle.peer.proofs.Shows.{after_none}
 use Rattle.rollback.specs.Saved.{slot}
 use Rattle.rollback.proofs.Bytes.{slot_same, slot_behind}
-use Rattle.rollback.proofs.Windows.{checked_room, saved_one, saved_as}
+use Rattle.rollback.proofs.Windows.{saved_one, saved_as}
 use Rattle.rollback.proofs.events.begin.Goals as goal
 
 pub returns-clause-begun : goal.returns-clause-begun
