@@ -1,5 +1,5 @@
 // A recording where it lies: its window, a byte for each frame, and the state after every 600th.
-// That the states are right is a clause of the reader and no ghost field: who has such parts may make one of them as it is.
+// That the states are right is no ghost field but a clause of the reader: anybody may put one together from parts.
 #[derive(Clone, Copy)]
 pub struct Recording<'a> {
     pub window: u8,

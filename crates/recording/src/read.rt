@@ -96,7 +96,7 @@ impl<'a> Recording<'a> {
     }
 
     // Bytes as a recording, or their first fault. One that is taken is written as those very bytes.
-    #[tactic(auto, unfolding(crate::specs::Reading::reading))]
+    #[tactic(auto, using(crate::proofs::Checks::headed, crate::proofs::Checks::told_as), unfolding(crate::specs::Reading::reading))]
     pub fn read(bytes: &'a [u8]) -> Result<Recording<'a>, Fault>
         ensures value { read_as result ≡ reading bytes.now }
         ensures proper { IfOk result (λ m. Proper (match_in m)) }

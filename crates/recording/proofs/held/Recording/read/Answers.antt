@@ -1,10 +1,9 @@
 use Rattle.std.proofs.Common.{◌≡◌, ℕ, ◌/◌, ◌<◌, List, length, get_or, Ok, Result, sym, ap, ◌∙◌, subst, arith}
-use Rattle.std.proofs.lemmas.Result.{err_from_is_err_and}
 use Rattle.recording.specs.declared.fault.Fault.{Fault}
 use Rattle.recording.specs.Matches.{Match, marks, match_bytes}
 use Rattle.recording.specs.Reading.{match_in, frames_in, due_in, Proper}
 use Rattle.recording.proofs.Checks.{headed, told_as, states_right, frames_there}
-use Rattle.recording.proofs.Readings.{found_in, bad_states, all_right, read_back, read_proper}
+use Rattle.recording.proofs.Readings.{found_in, all_right, read_back, read_proper}
 use Rattle.recording.proofs.held.Recording.read.Goals as goal
 
 pub check_states-requires : goal.check_states-requires
@@ -14,14 +13,6 @@ check_states-requires c =
     let h = headed xs parts.0 in
     let n = ap length parts.2 ∙ frames_there xs h in
     omega arith
-
-pub returns-in_err-check_states-clause-value : goal.returns-in_err-check_states-clause-value
-returns-in_err-check_states-clause-value c =
-    let xs = c.args.bytes.now in
-    let parts = c.in_ok-recording.ensures in
-    let told = told_as xs _ _ (headed xs parts.0) parts.2 parts.3 in
-    let p = err_from_is_err_and c.from_residual-in_err-check_states.result c.from_residual-in_err-check_states.ensures.1 in
-    rw (p.1, p.2) (sym (bad_states xs _ parts.0 (sym (c.in_err-check_states.ensures ∙ told))))
 
 pub returns : goal.returns
 returns c =
