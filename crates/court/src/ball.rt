@@ -9,7 +9,7 @@ use crate::{BALL_HALF, PADDLE_HALF_X, PADDLE_HALF_Y, TOP_SPEED};
 
 const GAIN: i32 = 32;
 
-// How near the middles of a ball and a paddle are where they touch.
+// How near the middles of a ball and a paddle are where they touch. In a constant stands no call, so a cast.
 const REACH_X: u32 = (PADDLE_HALF_X + BALL_HALF) as u32;
 
 const REACH_Y: u32 = (PADDLE_HALF_Y + BALL_HALF) as u32;

@@ -4,7 +4,7 @@ ghost use Rattle.picture.specs.Areas.{in_run, Covers, Covered};
 
 use court::{BALL_HALF, Court, HEIGHT, PADDLE_HALF_X, PADDLE_HALF_Y, WIDTH};
 
-// From a place up to, but without, another.
+// From a place up to, but without, another. It is Copy, as std's Range is not.
 #[derive(Clone, Copy)]
 pub struct Run {
     pub from: usize,

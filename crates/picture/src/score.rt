@@ -36,7 +36,7 @@ fn mark(row: &mut [u8], i: usize, shown: bool)
     }
 }
 
-// One row of a digit.
+// One row of a digit. A loop over its three bits is no shorter.
 #[tactic(auto, using(crate::proofs::Paints::three_marks))]
 fn paint_digit(row: &mut [u8], left: usize, bits: u8)
     requires { left + 3 ≤ length row.old }
