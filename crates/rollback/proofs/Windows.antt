@@ -1,19 +1,13 @@
 -- The states that are saved: slots by remainders, and states by inputs. Assumes nothing.
-use Rattle.std.proofs.Common.{◌≡◌, ℕ, zero, suc, ◌+◌, ◌*◌, ◌/◌, ◌%◌, ◌<◌, ◌≤◌, List, length, Ok, sym, ap, ◌∙◌, subst, inl, inr, mul-le-mul_right, mod-lt, add-mul, one-mul, arith}
+use Rattle.std.proofs.Common.{◌≡◌, ℕ, zero, suc, ◌+◌, ◌*◌, ◌/◌, ◌%◌, ◌<◌, ◌≤◌, List, length, sym, ap, ◌∙◌, subst, inl, inr, mul-le-mul_right, mod-lt, add-mul, one-mul, arith}
 use native.Mathlib.Nat.{mod-add-div'}
 use Rattle.std.proofs.lemmas.Bool.{cases_lt}
-use Rattle.std.proofs.lemmas.Bool.Decides.{nat_tests}
 use Rattle.game.specs.Saved.{SavedRules, Lawful}
 use Rattle.game.specs.declared.seat.Seat.{Seat}
 use Rattle.game.specs.declared.seat.Seat.TheVariants.{Left, Right}
 use Rattle.peer.specs.Lent.{seated, state_at, after}
-use Rattle.rollback.specs.Said.{memory_checked}
 use Rattle.rollback.specs.Saved.{slot, with_slot, Saved}
 use Rattle.rollback.proofs.Bytes.{slot_same, slot_other}
-
--- memory that is not refused is long enough
-pub checked_room : (window inputs states : ℕ) → Ok tt ≡ memory_checked window inputs states → (2000000 ≤ inputs) × ((window + 1) * 64 ≤ states)
-checked_room window inputs states e = (grind (arith, nat_tests), grind (arith, nat_tests))
 
 -- two of a row of n + 1 numbers have not the same remainder by n + 1
 apart : (n j k : ℕ) → j < k → k ≤ j + n → j % (n + 1) ≡ k % (n + 1) → ⊥
