@@ -6,7 +6,6 @@ ghost use Rattle.rollback.specs.Saved.{Roomy};
 use peer::Refusal;
 use peer::memory::{check_inputs, check_states};
 
-#[tactic(auto, using(std::proofs::lemmas::Bool::Decides::nat_tests))]
 pub(crate) fn check_memory(window: usize, inputs: &[u8], states: &[u8]) -> Result<(), Refusal>
     requires { window ≤ 60 }
     ensures answer { result ≡ memory_checked window (length inputs.now) (length states.now) }
