@@ -17,7 +17,7 @@ fn find_bad(inputs: &[u8]) -> Option<usize>
 }
 
 // The first frame and the number of inputs, which stand behind the mark.
-#[tactic(auto, using(std::proofs::lemmas::Bool::Decides::nat_tests), unfolding(crate::specs::Wire::start_checked))]
+#[tactic(auto, unfolding(crate::specs::Wire::start_checked))]
 fn read_start(packet: &[u8]) -> Result<(u32, u8), Fault>
     ensures { MatchResult result (λ r. (start_checked packet.now ≡ Ok tt) × (r.0 ≡ first_in packet.now) × (r.1 ≡ count_in packet.now)) (λ f. start_checked packet.now ≡ Err f) }
 {
@@ -44,7 +44,7 @@ fn read_start(packet: &[u8]) -> Result<(u32, u8), Fault>
 }
 
 // The acknowledgement and the inputs, so many, of a packet whose start is right.
-#[tactic(auto, using(std::proofs::lemmas::Bool::Decides::nat_tests, crate::proofs::Firsts::inputs_there), unfolding(crate::specs::Wire::rest_checked))]
+#[tactic(auto, using(crate::proofs::Firsts::inputs_there), unfolding(crate::specs::Wire::rest_checked))]
 fn read_rest(packet: &[u8], own: u32, count: u8) -> Result<(u32, &[u8]), Fault>
     requires { count ≡ count_in packet.now }
     ensures { MatchResult result (λ r. (rest_checked own packet.now ≡ Ok tt) × (r.0 ≡ ack_in packet.now) × (r.1.now ≡ inputs_in packet.now)) (λ f. rest_checked own packet.now ≡ Err f) }

@@ -14,7 +14,7 @@ use game::seat::Seat;
 use packet::Packet;
 
 // A new peer, or why there is none: the window, the lent inputs or the lent states.
-#[tactic(auto, using(std::proofs::lemmas::Bool::Decides::nat_tests, crate::proofs::Logs::log_new), unfolding(crate::specs::Said::begin_checked))]
+#[tactic(auto, using(crate::proofs::Logs::log_new), unfolding(crate::specs::Said::begin_checked))]
 pub fn begin(seat: Seat, window: usize, inputs: &[u8], states: &[u8]) -> Result<Peer, Refusal>
     ensures answer { as_checked result ≡ begin_checked window (length inputs.now) (length states.now) }
     ensures begun { IfOk result (λ p. Begun seat window p inputs.now) }
@@ -26,7 +26,7 @@ pub fn begin(seat: Seat, window: usize, inputs: &[u8], states: &[u8]) -> Result<
 }
 
 // A frame's time, with the input at the peer's own seat.
-#[tactic(auto, using(std::proofs::lemmas::Bool::Decides::nat_tests, crate::proofs::Logs::goes_on_is), unfolding(crate::specs::Said::said_tick, crate::specs::Peers::event))]
+#[tactic(auto, using(crate::proofs::Logs::goes_on_is), unfolding(crate::specs::Said::said_tick, crate::specs::Peers::event))]
 pub fn tick<G: Game>(p: &mut Peer, inputs: &mut [u8], input: u8) -> Outcome
     ensures answer { result ≡ said_tick G.rules.fits p.old.window (length inputs.old) (log_of p.old inputs.old) input }
     ensures happens { Happened G.rules.fits p.old inputs.old (ticked input) p.new inputs.new }
@@ -46,7 +46,7 @@ pub fn tick<G: Game>(p: &mut Peer, inputs: &mut [u8], input: u8) -> Outcome
 }
 
 // Bytes that came from the other.
-#[tactic(auto, using(std::proofs::lemmas::Bool::Decides::nat_tests, crate::proofs::Logs::own_long), unfolding(crate::specs::Said::said_arrival, crate::specs::Peers::event))]
+#[tactic(auto, using(crate::proofs::Logs::own_long), unfolding(crate::specs::Said::said_arrival, crate::specs::Peers::event))]
 pub fn receive(p: &mut Peer, inputs: &mut [u8], bytes: &[u8]) -> Outcome
     ensures answer { result ≡ said_arrival (length inputs.old) (log_of p.old inputs.old) bytes.now }
     ensures happens { (fits : ℕ → Bool) → Happened fits p.old inputs.old (arrival bytes.now) p.new inputs.new }

@@ -23,7 +23,7 @@ use peer::numbers::check_window;
 use peer::{Peer, Refusal};
 
 // Whether a peer may begin, or why not: the window, the lent inputs or the lent states.
-#[tactic(auto, using(std::proofs::lemmas::Bool::Decides::nat_tests), unfolding(crate::specs::Said::begin_checked))]
+#[tactic(auto, unfolding(crate::specs::Said::begin_checked))]
 pub fn check_begin(window: usize, inputs: &[u8], states: &[u8]) -> Result<(), Refusal>
     ensures answer { result ≡ begin_checked window (length inputs.now) (length states.now) }
     ensures within { result ≡ Ok tt → (1 ≤ window) × (window ≤ 60) }
@@ -34,7 +34,7 @@ pub fn check_begin(window: usize, inputs: &[u8], states: &[u8]) -> Result<(), Re
 
 // A new peer, or why there is none: the window, the lent inputs or the lent states. The state that the game starts with is saved
 // in the first slot; a refusal changes nothing.
-#[tactic(auto, using(std::proofs::lemmas::Bool::Decides::nat_tests), unfolding(crate::specs::Said::begin_checked))]
+#[tactic(auto, unfolding(crate::specs::Said::begin_checked))]
 pub fn begin<G: SavedGame>(
     seat: Seat,
     window: usize,
@@ -72,7 +72,7 @@ fn go_on<G: SavedGame>(p: &mut Peer, inputs: &mut [u8], states: &mut [u8], input
 }
 
 // Whether a tick may be taken, or why it is refused: the lent memory, then the input.
-#[tactic(auto, using(std::proofs::lemmas::Bool::Decides::nat_tests), unfolding(crate::specs::Said::said_tick))]
+#[tactic(auto, unfolding(crate::specs::Said::said_tick))]
 fn check_tick<G: SavedGame>(
     p: &Peer,
     inputs: &[u8],
@@ -90,7 +90,7 @@ fn check_tick<G: SavedGame>(
 }
 
 // A frame's time, with the input at the peer's own seat.
-#[tactic(auto, using(std::proofs::lemmas::Bool::Decides::nat_tests, peer::proofs::Logs::goes_on_is), unfolding(crate::specs::Said::said_tick, peer::specs::Peers::event))]
+#[tactic(auto, using(peer::proofs::Logs::goes_on_is), unfolding(crate::specs::Said::said_tick, peer::specs::Peers::event))]
 pub fn tick<G: SavedGame>(p: &mut Peer, inputs: &mut [u8], states: &mut [u8], input: u8) -> Outcome
     ensures answer { result ≡ said_tick G.saved.fits p.old.window (length inputs.old) (length states.old) (log_of p.old inputs.old) input }
     ensures happens { Happened G.saved p.old inputs.old states.old (ticked input) p.new inputs.new states.new }
@@ -105,7 +105,7 @@ pub fn tick<G: SavedGame>(p: &mut Peer, inputs: &mut [u8], states: &mut [u8], in
 }
 
 // The packet that bytes are, or why they are refused: the lent memory, then the bytes.
-#[tactic(auto, using(std::proofs::lemmas::Bool::Decides::nat_tests, peer::proofs::Logs::own_long), unfolding(crate::specs::Said::said_arrival))]
+#[tactic(auto, using(peer::proofs::Logs::own_long), unfolding(crate::specs::Said::said_arrival))]
 fn read_packet<'a>(
     p: &Peer,
     inputs: &[u8],
@@ -122,7 +122,7 @@ fn read_packet<'a>(
 }
 
 // Bytes that came from the other.
-#[tactic(auto, using(std::proofs::lemmas::Bool::Decides::nat_tests, peer::proofs::Logs::own_long), unfolding(crate::specs::Said::said_arrival, peer::specs::Peers::event))]
+#[tactic(auto, using(peer::proofs::Logs::own_long), unfolding(crate::specs::Said::said_arrival, peer::specs::Peers::event))]
 pub fn receive<G: SavedGame>(
     p: &mut Peer,
     inputs: &mut [u8],
