@@ -8,16 +8,17 @@
 
 #![tactic(auto)]
 
-use anyhow::anyhow;
+use anyhow::{Context, anyhow};
 use game::seat::Seat;
 use peer::Peer;
 use picture::{LENGTH, text_of};
 use rollback::Outcome;
-use rollback_session::Refused;
 use rollback_session::calls::{PACKET_LENGTH, begin, check_lent, draw, happen, status};
-use rollback_session::file::{arrival_head, check_events, event_at};
+use rollback_session::file::{Events, arrival_head, check_events};
+use rollback_session::{Refused, Status};
+use std::alloc::{AllocError, Global};
 use std::process::ExitCode;
-use std::{env, fs};
+use std::{env, fs, io};
 
 const USAGE: &str = "usage: play SEAT N FILE [show] [letters OUT]";
 
@@ -36,51 +37,60 @@ struct Options {
     letters: Option<String>,
 }
 
-fn seat_of(word: &str) -> anyhow::Result<Seat> {
+fn seat_of(word: &str) -> Option<Seat> {
     match word {
-        "0" => Ok(Seat::Left),
-        "1" => Ok(Seat::Right),
-        _ => Err(anyhow!(USAGE)),
+        "0" => Some(Seat::Left),
+        "1" => Some(Seat::Right),
+        _ => None,
     }
 }
 
-fn arguments(rt: &HostRuntime) -> anyhow::Result<Options> {
-    let mut args = env::args(rt)?.skip(1);
-    let (Some(seat), Some(window), Some(file)) = (args.next(), args.next(), args.next()) else {
-        return Err(anyhow!(USAGE));
-    };
-    let Ok(window) = window.as_str().parse::<usize>() else {
-        return Err(anyhow!(USAGE));
-    };
+// The options, if the command line is as `USAGE` says. Its first word is the program's.
+fn options_of(mut words: env::Args) -> Option<Options> {
+    words.next()?;
+    let (seat, window, file) = (words.next()?, words.next()?, words.next()?);
     let mut options = Options {
         seat: seat_of(seat.as_str())?,
-        window,
+        window: window.as_str().parse().ok()?,
         file,
         show: false,
         letters: None,
     };
-    let mut out_next = false;
-    for word in args {
-        if out_next {
-            options.letters = Some(word);
-            out_next = false;
-        } else {
-            match word.as_str() {
-                "show" => options.show = true,
-                "letters" => out_next = true,
-                _ => return Err(anyhow!(USAGE)),
-            }
+    while let Some(word) = words.next() {
+        match word.as_str() {
+            "show" => options.show = true,
+            "letters" => options.letters = Some(words.next()?),
+            _ => return None,
         }
     }
-    if out_next {
-        return Err(anyhow!(USAGE));
-    }
-    Ok(options)
+    Some(options)
 }
 
-fn refused(rt: &HostRuntime, number: u8, place: usize) -> anyhow::Result<()> {
-    println!(rt; "refused {number} at {place}")?;
-    Ok(())
+// The memory that a session is lent.
+#[derive(Drop)]
+struct Memory {
+    inputs: Vec<u8>,
+    states: Vec<u8>,
+    picture: Vec<u8>,
+}
+
+impl Memory {
+    fn new(alloc: Global) -> Result<Memory, AllocError> {
+        Ok(Memory {
+            inputs: vec![in alloc; 0u8; INPUTS]?,
+            states: vec![in alloc; 0u8; STATES]?,
+            picture: vec![in alloc; 0u8; LENGTH]?,
+        })
+    }
+
+    // A session for the events of a file: first what does not let it begin is refused, and then a file that is no row of events.
+    fn begin(&mut self, options: &Options, file: &[u8]) -> Result<Peer, Refused> {
+        let (inputs, picture) = (self.inputs.as_slice(), self.picture.as_slice());
+        let states = self.states.as_mut_slice();
+        check_lent(options.window, inputs, states, picture)?;
+        check_events(file)?;
+        begin(options.seat, options.window, inputs, states, picture)
+    }
 }
 
 // The line for an event.
@@ -91,22 +101,21 @@ fn print_outcome(
     outcome: Outcome,
 ) -> anyhow::Result<()> {
     match outcome {
-        Outcome::Taken(_) => match status(p, states) {
-            Ok(s) => {
-                println!(rt;
-                    "beat {} sure {} points {} {}",
-                    s.frames, s.confirmed, s.score.left, s.score.right
-                )?;
-                Ok(())
-            }
-            Err(f) => refused(rt, f.number(), f.place()),
-        },
-        Outcome::Lost => {
-            println!(rt; "lost")?;
-            Ok(())
+        Outcome::Taken(_) => {
+            let Status {
+                frames,
+                confirmed,
+                score,
+            } = status(p, states)?;
+            println!(rt;
+                "beat {frames} sure {confirmed} points {} {}",
+                score.left, score.right
+            )?;
         }
-        Outcome::Refused(f) => refused(rt, f.number(), f.place()),
+        Outcome::Lost => println!(rt; "lost")?,
+        Outcome::Refused(refusal) => println!(rt; "{}", Refused::from(refusal))?,
     }
+    Ok(())
 }
 
 fn print_picture(
@@ -115,13 +124,9 @@ fn print_picture(
     states: &[u8],
     picture: &mut [u8],
 ) -> anyhow::Result<()> {
-    match draw(p, states, picture) {
-        Ok(()) => {
-            print!(rt; "{}", text_of(rt.alloc(), picture)?)?;
-            Ok(())
-        }
-        Err(f) => refused(rt, f.number(), f.place()),
-    }
+    draw(p, states, picture)?;
+    print!(rt; "{}", text_of(rt.alloc(), picture)?)?;
+    Ok(())
 }
 
 // A packet that this peer sent, as an event of the other's.
@@ -132,92 +137,68 @@ fn keep_packet(letters: &mut Vec<u8>, packet: &[u8]) -> anyhow::Result<()> {
     Ok(())
 }
 
-// All events of a file, and the packets that were sent; or why none is carried out.
+// All events of a file, each with its line. Hands back the packets that were sent.
 fn play(
     rt: &HostRuntime,
-    options: &Options,
+    p: &mut Peer,
+    memory: &mut Memory,
     file: &[u8],
-) -> anyhow::Result<Result<Vec<u8>, Refused>> {
-    let mut inputs = vec![in rt.alloc(); 0u8; INPUTS]?;
-    let mut states = vec![in rt.alloc(); 0u8; STATES]?;
-    let mut picture = vec![in rt.alloc(); 0u8; LENGTH]?;
-    if let Err(f) = check_lent(
-        options.window,
-        inputs.as_slice(),
-        states.as_slice(),
-        picture.as_slice(),
-    ) {
-        return Ok(Err(f));
-    }
-    let count = match check_events(file) {
-        Ok(count) => count,
-        Err(f) => return Ok(Err(f)),
-    };
-    let mut p = match begin(
-        options.seat,
-        options.window,
-        inputs.as_slice(),
-        states.as_mut_slice(),
-        picture.as_slice(),
-    ) {
-        Ok(p) => p,
-        Err(f) => return Ok(Err(f)),
-    };
+    show: bool,
+) -> anyhow::Result<Vec<u8>> {
     let mut packet = [0; PACKET_LENGTH];
     let mut letters = Vec::new(rt.alloc());
-    let mut at = 0;
-    for _ in 0..count {
-        let placed = match event_at(file, at) {
-            Ok(placed) => placed,
-            Err(f) => return Ok(Err(f)),
-        };
+    for event in Events::of(file) {
         let answer = happen(
-            &mut p,
-            inputs.as_mut_slice(),
-            states.as_mut_slice(),
-            placed.event,
+            p,
+            memory.inputs.as_mut_slice(),
+            memory.states.as_mut_slice(),
+            event?,
             &mut packet,
         );
-        print_outcome(rt, &p, states.as_slice(), answer.outcome)?;
-        if options.show {
-            print_picture(rt, &p, states.as_slice(), picture.as_mut_slice())?;
+        print_outcome(rt, p, memory.states.as_slice(), answer.outcome)?;
+        if show {
+            print_picture(
+                rt,
+                p,
+                memory.states.as_slice(),
+                memory.picture.as_mut_slice(),
+            )?;
         }
         if let Some(length) = answer.sent {
             keep_packet(&mut letters, packet.get(0..length).unwrap_or(&[]))?;
         }
-        at = placed.next;
     }
-    Ok(Ok(letters))
+    Ok(letters)
 }
 
-// Whether the session was played, or was refused, which is told on standard output.
-fn run(rt: &HostRuntime) -> anyhow::Result<bool> {
-    let options = arguments(rt)?;
+fn at_file(path: &str, error: io::Error) -> anyhow::Error {
+    anyhow!("play: {path}: {error}")
+}
+
+// Plays the session, or tells on standard output why it is refused.
+fn run(rt: &HostRuntime) -> anyhow::Result<ExitCode> {
+    let options = options_of(env::args(rt)?).context(USAGE)?;
     let path = options.file.as_str();
-    let file = match fs::read(rt, path) {
-        Ok(file) => file,
-        Err(e) => return Err(anyhow!(format!(in rt.alloc(); "play: {path}: {e}")?)),
-    };
-    let letters = match play(rt, &options, file.as_slice())? {
-        Ok(letters) => letters,
-        Err(f) => {
-            refused(rt, f.number(), f.place())?;
-            return Ok(false);
+    let file = fs::read(rt, path).map_err(|e| at_file(path, e))?;
+    let mut memory = Memory::new(rt.alloc())?;
+    let mut p = match memory.begin(&options, file.as_slice()) {
+        Ok(p) => p,
+        Err(refused) => {
+            println!(rt; "{refused}")?;
+            return Ok(ExitCode::FAILURE);
         }
     };
+    let letters = play(rt, &mut p, &mut memory, file.as_slice(), options.show)?;
     if let Some(out) = &options.letters {
-        match fs::write(rt, out.as_str(), letters.as_slice()) {
-            Ok(()) => {}
-            Err(e) => return Err(anyhow!(format!(in rt.alloc(); "play: {out}: {e}")?)),
-        }
+        let out = out.as_str();
+        fs::write(rt, out, letters.as_slice()).map_err(|e| at_file(out, e))?;
     }
-    Ok(true)
+    Ok(ExitCode::SUCCESS)
 }
 
 fn main(rt: HostRuntime) -> ExitCode {
     match run(&rt) {
-        Ok(true) => ExitCode::SUCCESS,
-        Ok(false) => ExitCode::FAILURE,
+        Ok(status) => status,
         Err(e) => {
             let _ = eprintln!(rt; "{e}");
             ExitCode::FAILURE

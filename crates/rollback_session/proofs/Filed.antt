@@ -1,12 +1,18 @@
 -- Events in bytes: what stands at a place, and that it is one. Assumes nothing.
-use Rattle.std.proofs.Common.{◌≡◌, ℕ, ◌+◌, ◌-◌, ◌<◌, ◌≤◌, ◌⊎◌, List, [], ◌∷◌, ◌++◌, length, get_or, take, drop, sym, refl, ap, ◌∙◌, inl, inr, arith, length-append, length-drop}
+use Rattle.std.proofs.Common.{◌≡◌, ℕ, ◌+◌, ◌-◌, ◌<◌, ◌≤◌, ◌⊎◌, List, Ok, Err, IsOk, Result, Some, None, [], ◌∷◌, ◌++◌, length, get_or, take, drop, sym, refl, ap, ◌∙◌, inl, inr, arith, length-append, length-drop}
 use Rattle.std.specs.List.{flat_map, AllByRecursion}
-use Rattle.std.proofs.lemmas.List.{append_assoc, append-nil, drop_all, drop_more, drop-drop, get_or-drop, length-take-le, take_at, drop_at, flat_map_more}
+use Rattle.std.proofs.lemmas.List.{length_push, append_assoc, append-nil, drop_all, drop_more, drop-drop, get_or-drop, length-take-le, take_at, drop_at, flat_map_more}
 use Rattle.std.proofs.ByRecursion.{All-push}
 use Rattle.byte_numbers.specs.Little.{little, number_of, part}
 use Rattle.byte_numbers.specs.Numbers.{number_little}
 use Rattle.byte_numbers.proofs.Places.{little_part, part_rest}
 use Rattle.peer.specs.Peers.{Event, tick, arrival}
+use Rattle.rollback_session.specs.declared.event.Happening.{Happening}
+use Rattle.rollback_session.specs.declared.file.Events.{Events}
+use Rattle.rollback_session.specs.declared.refused.Refused.{Refused}
+use Rattle.rollback_session.specs.declared.refused.Refused.TheVariants as refused
+use Rattle.rollback_session.specs.Events.{event_of}
+use Rattle.rollback_session.specs.Following.{GivesEvent, StandsIn}
 use Rattle.rollback_session.specs.Files.{event_bytes, Sized, FileOf, StandsAt, NoEvent, FaultyAt, OneRow}
 
 -- ---- what stands at a place
@@ -151,6 +157,37 @@ read_broken file es at r h none =
     }
 
 -- an event goes on
-pub next_beyond : (file : List ℕ) (at : ℕ) (e : Event) (next : ℕ) → StandsAt file at e next → at + 2 ≤ next
+next_beyond : (file : List ℕ) (at : ℕ) (e : Event) (next : ℕ) → StandsAt file at e next → at + 2 ≤ next
 next_beyond file at (tick a) next s = omega (arith, s.next_is)
 next_beyond file at (arrival xs) next s = omega (arith, s.next_is)
+
+-- ---- the same by an iterator
+
+-- what an iterator over a file's events has given
+pub record Given (file : List ℕ) (es : List Event) (events : Events) : Type 0 where
+  pub file_is : events.file.now ≡ file
+  pub read : ReadUpTo file es events.at
+  pub few : length es ≤ events.at
+
+pub given_none : (file : List ℕ) (s : Events) → StandsIn file 0 s → Given file [] s
+given_none file s h =
+    record { file_is = h.file_is; read = rw h.at_is (read_none file); few = omega arith }
+
+pub given_more : (file : List ℕ) (es : List Event) (s t : Events) (h : Happening) → GivesEvent s (Some (Ok h)) t → Given file es s → Given file (es ++ event_of h ∷ []) t
+given_more file es s t h gives g =
+    let e : Event = event_of h in
+    let stands : StandsAt file s.at e t.at = rw g.file_is at gives.1 in
+    let beyond = next_beyond file s.at e t.at stands in
+    record { file_is = ap (λ b. b.now) gives.0 ∙ g.file_is; read = read_more file es s.at e t.at g.read stands; few = omega (arith, length_push es e, g.few) }
+
+pub given_all : (file : List ℕ) (es : List Event) (s t : Events) → GivesEvent s None t → Given file es s → FileOf es file
+given_all file es s t gives g = read_all file es s.at g.read (rw g.file_is at gives.0)
+
+pub given_broken : (file : List ℕ) (es : List Event) (s t : Events) (f : Refused) → GivesEvent s (Some (Err f)) t → Given file es s → (f ≡ refused.Event s.at) × FaultyAt file s.at
+given_broken file es s t f gives g =
+    (gives.2, read_broken file es s.at g.read (rw g.file_is at gives.1) (rw g.file_is at gives.3))
+
+-- of a file that is a row of events no refusal comes
+pub given_ok : (file : List ℕ) (es fs : List Event) (s t : Events) (r : Result Happening Refused) → FileOf fs file → GivesEvent s (Some r) t → Given file es s → IsOk r
+given_ok file es fs s t (Ok h) k gives g = refl
+given_ok file es fs s t (Err f) k gives g = absurd ((one_row file fs k).1 s.at (given_broken file es s t f gives g).1)

@@ -1,10 +1,12 @@
 // Events in bytes, as files have them: 0 and an input, or 1, a length in two bytes, low byte first, and bytes that came.
-ghost use Rattle.std.specs.Prelude.{◌≡◌, ℕ, ◌+◌, ◌≤◌, List, ◌∷◌, length, drop, MatchResult, slice_index};
+ghost use Rattle.std.specs.Prelude.{◌≡◌, ℕ, ◌+◌, ◌-◌, ◌≤◌, List, ◌∷◌, length, drop, MatchResult, slice_index};
 ghost use Rattle.rollback_session.specs.declared.refused.Refused.TheVariants.{Event};
 ghost use Rattle.rollback_session.specs.Events.{event_of};
 ghost use Rattle.byte_numbers.specs.Little.{little};
 ghost use Rattle.peer.specs.Peers.{Event as Happened};
 ghost use Rattle.rollback_session.specs.Files.{FileOf, StandsAt, NoEvent, FaultyAt};
+ghost use Rattle.rollback_session.specs.Following.{GivesEvent, StandsIn};
+ghost use Rattle.std.specs.Iterator.{at_most};
 
 use crate::event::Happening;
 use crate::refused::Refused;
@@ -70,14 +72,53 @@ pub fn event_at(file: &[u8], at: usize) -> Result<Placed<'_>, Refused>
     }
 }
 
+// The events of a file that are still to come.
+#[derive(Clone, Drop)]
+pub struct Events<'a> {
+    file: &'a [u8],
+    at: usize,
+}
+
+impl<'a> Events<'a> {
+    pub fn of(file: &'a [u8]) -> Events<'a>
+        ensures { StandsIn file.now 0 result }
+    {
+        Events { file, at: 0 }
+    }
+}
+
+impl<'a> Iterator for Events<'a> {
+    type Item = Result<Happening<'a>, Refused>;
+
+    ghost next_gives = { GivesEvent };
+
+    ghost remaining = { λ events. at_most (length events.file.now - events.at) };
+
+    // The next event. Bytes that are none are refused, and then no more comes.
+    fn next(&mut self) -> Option<Result<Happening<'a>, Refused>> {
+        if self.file.len() <= self.at {
+            return None;
+        }
+        match event_at(self.file, self.at) {
+            Ok(placed) => {
+                self.at = placed.next;
+                Some(Ok(placed.event))
+            }
+            Err(refused) => {
+                self.at = self.file.len();
+                Some(Err(refused))
+            }
+        }
+    }
+}
+
 // How many events a file has; or the first byte of what is no event.
 pub fn check_events(file: &[u8]) -> Result<usize, Refused>
     ensures { MatchResult result (λ n. (es : List Happened) × FileOf es file.now × (n ≡ length es)) (λ f. (at : ℕ) × (f ≡ Event at) × FaultyAt file.now at) }
 {
-    let mut at = 0;
     let mut count = 0;
-    while at < file.len() {
-        at = event_at(file, at)?.next;
+    for event in Events::of(file) {
+        event?;
         count += 1;
     }
     Ok(count)

@@ -11,26 +11,19 @@ ghost use Rattle.rollback_session.specs.Rows.{After, log_after, memory};
 ghost use Rattle.rollback_session.specs.Whole.{Answered};
 
 use crate::calls::{PACKET_LENGTH, begin, check_lent, draw, happen};
-use crate::file::{check_events, event_at};
+use crate::file::{Events, check_events};
 use crate::refused::Refused;
 use game::seat::Seat;
 use peer::Peer;
 
-// All events of a file that is a row of them, right and wrong.
+// All events of a file that is a row of them, right and wrong. None of them is a refusal.
 fn happen_all(p: &mut Peer, inputs: &mut [u8], states: &mut [u8], file: &[u8])
     requires { (es : List Event) × FileOf es file.now }
     ensures { (seat : At) (window : ℕ) (before es : List Event) → After seat window before (memory p.old inputs.old states.old) → FileOf es file.now → After seat window (before ++ es) (memory p.new inputs.new states.new) }
 {
     let mut out = [0; PACKET_LENGTH];
-    let mut at = 0;
-    while at < file.len() {
-        match event_at(file, at) {
-            Ok(placed) => {
-                let _ = happen(p, inputs, states, placed.event, &mut out);
-                at = placed.next;
-            }
-            Err(_) => unreachable(),
-        }
+    for event in Events::of(file) {
+        let _ = happen(p, inputs, states, event.unwrap(), &mut out);
     }
 }
 

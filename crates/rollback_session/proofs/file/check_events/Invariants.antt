@@ -1,10 +1,10 @@
-use Rattle.std.proofs.Common.{◌≡◌, ◌-◌, ◌≤◌, List, length}
+use Rattle.std.proofs.Common.{◌≡◌, List, length}
 use Rattle.peer.specs.Peers.{Event}
-use Rattle.rollback_session.proofs.Filed.{ReadUpTo}
+use Rattle.rollback_session.proofs.Filed.{Given}
 use Rattle.rollback_session.proofs.file.check_events.Given as goal
 
-abbrev pub invariant-loop-at : goal.invariant-loop-at
-invariant-loop-at l = (es : List Event) × ReadUpTo l.file es l.at × (l.count ≡ length es) × (l.count ≤ l.at)
-
-abbrev pub decreases-loop-at : goal.decreases-loop-at
-decreases-loop-at l = length l.file - l.at
+abbrev pub invariant-loop-event : goal.invariant-loop-event
+invariant-loop-event l =
+    (goal.iterator-loop-event).can_next l.event-iterator
+    × (goal.iterator-loop-event).is_finite l.event-iterator
+    × ((es : List Event) × Given l.file es l.event-iterator × (l.count ≡ length es))

@@ -1,14 +1,13 @@
-use Rattle.std.proofs.Common.{ℕ, ◌-◌, List, ◌++◌, length}
+use Rattle.std.proofs.Common.{ℕ, List, ◌++◌}
 use Rattle.game.specs.declared.seat.Seat.{Seat}
 use Rattle.peer.specs.Peers.{Event}
 use Rattle.rollback_session.specs.Rows.{After, memory}
-use Rattle.rollback_session.proofs.Filed.{ReadUpTo}
+use Rattle.rollback_session.proofs.Filed.{Given}
 use Rattle.rollback_session.proofs.whole.happen_all.Given as goal
 
-abbrev pub invariant-loop-at : goal.invariant-loop-at
-invariant-loop-at l =
-    (es : List Event) × ReadUpTo l.file es l.at
-    × ((seat : Seat) (window : ℕ) (before : List Event) → After seat window before (memory l.initial.p l.initial.inputs l.initial.states) → After seat window (before ++ es) (memory l.p l.inputs l.states))
-
-abbrev pub decreases-loop-at : goal.decreases-loop-at
-decreases-loop-at l = length l.file - l.at
+abbrev pub invariant-loop-event : goal.invariant-loop-event
+invariant-loop-event l =
+    (goal.iterator-loop-event).can_next l.event-iterator
+    × (goal.iterator-loop-event).is_finite l.event-iterator
+    × ((es : List Event) × Given l.file es l.event-iterator
+    × ((seat : Seat) (window : ℕ) (before : List Event) → After seat window before (memory l.initial.p l.initial.inputs l.initial.states) → After seat window (before ++ es) (memory l.p l.inputs l.states)))
