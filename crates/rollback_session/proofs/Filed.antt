@@ -1,11 +1,11 @@
 -- Events in bytes: what stands at a place, and that it is one. Assumes nothing.
-use Rattle.std.proofs.Common.{◌≡◌, ℕ, ◌+◌, ◌-◌, ◌<◌, ◌≤◌, ◌⊎◌, List, Ok, Err, IsOk, Result, Some, None, [], ◌∷◌, ◌++◌, length, get_or, take, drop, sym, refl, ap, ◌∙◌, inl, inr, arith, length-append, length-drop}
+use Rattle.std.proofs.Common.{◌≡◌, ℕ, ◌+◌, ◌-◌, ◌*◌, ◌<◌, ◌≤◌, List, Ok, Err, IsOk, Result, Some, None, [], ◌∷◌, ◌++◌, length, get_or, take, drop, sym, refl, ap, ◌∙◌, arith, length-append, length-drop, length-take, slice_range, subst}
 use Rattle.std.specs.List.{flat_map, AllByRecursion}
-use Rattle.std.proofs.lemmas.List.{length_push, append_assoc, append-nil, drop_all, drop_more, drop-drop, get_or-drop, length-take-le, take_at, drop_at, flat_map_more}
+use Rattle.std.proofs.lemmas.List.{length_push, append_assoc, append-nil, drop_all, drop_more, drop-drop, get_or-drop, length-take-le, take_all, take-take, take_at, drop_at, flat_map_more}
 use Rattle.std.proofs.ByRecursion.{All-push}
 use Rattle.byte_numbers.specs.Little.{little, number_of, part}
 use Rattle.byte_numbers.specs.Numbers.{number_little}
-use Rattle.byte_numbers.proofs.Places.{little_part, part_rest}
+use Rattle.byte_numbers.proofs.Places.{little_part, number_more, part_rest}
 use Rattle.peer.specs.Peers.{Event, tick, arrival}
 use Rattle.rollback_session.specs.declared.event.Happening.{Happening}
 use Rattle.rollback_session.specs.declared.file.Events.{Events}
@@ -15,24 +15,16 @@ use Rattle.rollback_session.specs.Events.{event_of}
 use Rattle.rollback_session.specs.Following.{GivesEvent, StandsIn}
 use Rattle.rollback_session.specs.Files.{event_bytes, Sized, FileOf, StandsAt, NoEvent, FaultyAt, OneRow}
 
--- ---- what stands at a place
+-- ---- bytes that came, at a place
 
-pub tick_stands : (file : List ℕ) (at : ℕ) → at + 2 ≤ length file → get_or file at 0 ≡ 0 → StandsAt file at (tick (get_or file (at + 1) 0)) (at + 2)
-tick_stands file at h k =
-    let d : drop at file ≡ get_or file at 0 ∷ drop (at + 1) file = drop_more file at 0 (omega arith) in
-    let e : drop (at + 1) file ≡ get_or file (at + 1) 0 ∷ drop (at + 1 + 1) file = drop_more file (at + 1) 0 (omega arith) in
-    let n : at + 1 + 1 ≡ at + 2 = omega arith in
-    let f : drop (at + 1 + 1) file ≡ drop (at + 2) file = ap (λ i. drop i file) n in
-    record { sized = tt; next_is = refl; within = h; there = cc }
-
-pub arrival_stands : (file : List ℕ) (at n k : ℕ) → at + 3 + n ≤ length file → get_or file at 0 ≡ 1 → n ≡ number_of (part file (at + 1) 2) → n < 65536 → ((i : ℕ) → get_or file i 0 < 256) → k ≡ n → StandsAt file at (arrival (take k (drop (at + 3) file))) (at + 3 + n)
-arrival_stands file at n k h kind number room bytes same =
-    let xs : List ℕ = take k (drop (at + 3) file) in
-    let long : length xs ≡ n = length-take-le k (drop (at + 3) file) (simp length-drop (omega arith)) ∙ same in
+arrival_stands : (file : List ℕ) (at n : ℕ) → at + 3 + n ≤ length file → get_or file at 0 ≡ 1 → n ≡ number_of (part file (at + 1) 2) → n < 65536 → ((i : ℕ) → get_or file i 0 < 256) → StandsAt file at (arrival (take n (drop (at + 3) file))) (at + 3 + n)
+arrival_stands file at n h kind number room bytes =
+    let xs : List ℕ = take n (drop (at + 3) file) in
+    let long : length xs ≡ n = length-take-le n (drop (at + 3) file) (simp length-drop (omega arith)) in
     let d : drop at file ≡ get_or file at 0 ∷ drop (at + 1) file = drop_more file at 0 (omega arith) in
     let e : drop (at + 1) file ≡ part file (at + 1) 2 ++ drop (at + 3) file = part_rest file (at + 1) 2 (at + 3) (omega arith) in
     let l : little 2 (length xs) ≡ part file (at + 1) 2 = ap (little 2) (long ∙ number) ∙ little_part file 2 (at + 1) (omega arith) bytes in
-    let r : drop (at + 3) file ≡ xs ++ drop (at + 3 + n) file = part_rest file (at + 3) k (at + 3 + n) (omega arith) in
+    let r : drop (at + 3) file ≡ xs ++ drop (at + 3 + n) file = part_rest file (at + 3) n (at + 3 + n) (omega arith) in
     record {
       sized = omega arith;
       next_is = omega arith;
@@ -40,35 +32,24 @@ arrival_stands file at n k h kind number room bytes same =
       there = d ∙ ap (λ b. b ∷ drop (at + 1) file) kind ∙ ap (λ zs. 1 ∷ zs) (e ∙ ap (λ zs. part file (at + 1) 2 ++ zs) r ∙ ap (λ zs. zs ++ (xs ++ drop (at + 3 + n) file)) (sym l) ∙ sym (append_assoc (little 2 (length xs)) xs (drop (at + 3 + n) file)));
     }
 
--- ---- where none stands
-
--- bytes with an event at their front, by numbers
-Fronted : List ℕ → Type 0
-Fronted xs =
-    ((get_or xs 0 0 ≡ 0) × (2 ≤ length xs))
-    ⊎ ((get_or xs 0 0 ≡ 1) × (3 + number_of (part xs 1 2) ≤ length xs))
-
-fronted : (e : Event) (rest : List ℕ) → Sized e → Fronted (event_bytes e ++ rest)
-unfolding Fronted
-fronted (tick a) rest h = inl (refl, omega arith)
-fronted (arrival xs) rest h =
-    let n : number_of (little 2 (length xs)) ≡ length xs = number_little 2 (length xs) h in
-    let l : length ((little 2 (length xs) ++ xs) ++ rest) ≡ 2 + length xs + length rest = simp length-append in
-    inr (refl, omega arith)
-
-at_front : (file : List ℕ) (at : ℕ) → Fronted (drop at file) → ((get_or file at 0 ≡ 0) × (at + 2 ≤ length file)) ⊎ ((get_or file at 0 ≡ 1) × (at + 3 + number_of (part file (at + 1) 2) ≤ length file))
-unfolding Fronted
-at_front file at h =
-    let k : get_or (drop at file) 0 0 ≡ get_or file (at + 0) 0 = get_or-drop at file 0 0 in
-    let z : at + 0 ≡ at = omega arith in
-    let kind : get_or file (at + 0) 0 ≡ get_or file at 0 = ap (λ i. get_or file i 0) z in
-    let n : number_of (part (drop at file) 1 2) ≡ number_of (part file (at + 1) 2) = ap (λ zs. number_of (take 2 zs)) (drop-drop 1 at file) in
-    let l : length (drop at file) ≡ length file - at = length-drop at file in
-    elim h [ inl p ↦ inl (omega arith, omega arith) | inr p ↦ inr (omega arith, omega arith) ]
-
--- an event that stands at a place has a kind and is whole
-pub stands_whole : (file : List ℕ) (at : ℕ) (e : Event) (rest : List ℕ) → Sized e → drop at file ≡ event_bytes e ++ rest → ((get_or file at 0 ≡ 0) × (at + 2 ≤ length file)) ⊎ ((get_or file at 0 ≡ 1) × (at + 3 + number_of (part file (at + 1) 2) ≤ length file))
-stands_whole file at e rest h is = at_front file at (rw is (fronted e rest h))
+-- the same by the bytes from the place on, as slices have them
+pub arrival_here : (file front bytes : List ℕ) (at n m : ℕ) → at ≤ length file → front ≡ slice_range file at (length file) → 3 ≤ length front → get_or front 0 0 ≡ 1 → n ≡ get_or front 1 0 + get_or front 2 0 * 256 → n < 65536 → ((i : ℕ) → get_or file i 0 < 256) → n ≤ length (take m (drop 3 front)) → bytes ≡ slice_range (take m (drop 3 front)) 0 n → StandsAt file at (arrival bytes) (at + 3 + n)
+arrival_here file front bytes at n m within is long kind number room range enough bytes_are =
+    let whole : front ≡ drop at file = is ∙ take_all (length file - at) (drop at file) (omega (arith, length-drop at file)) in
+    let behind : drop 3 front ≡ drop (at + 3) file = ap (drop 3) whole ∙ drop-drop 3 at file in
+    let size : length front ≡ length file - at = ap length whole ∙ length-drop at file in
+    let fits = length-take m (drop 3 front) in
+    let all : length (drop 3 front) ≡ length file - (at + 3) = ap length behind ∙ length-drop (at + 3) file in
+    let z : n - 0 ≡ n = omega arith in
+    let packet : bytes ≡ take n (drop (at + 3) file) = bytes_are ∙ ap (λ k. take k (take m (drop 3 front))) z ∙ take-take n m (drop 3 front) (omega arith) ∙ ap (take n) behind in
+    let first = ap (λ zs. get_or zs 0 0) whole ∙ get_or-drop at file 0 0 in
+    let at0 = ap (λ k. get_or file k 0) (let e : at + 0 ≡ at = omega arith in e) in
+    let low = ap (λ zs. get_or zs 1 0) whole ∙ get_or-drop at file 1 0 in
+    let high = ap (λ zs. get_or zs 2 0) whole ∙ get_or-drop at file 2 0 in
+    let one = number_more file (at + 1) (at + 2) 1 (omega arith) (omega arith) in
+    let two = number_more file (at + 2) (at + 3) 0 (omega arith) (omega arith) in
+    let P : List ℕ → Type 0 = λ zs. StandsAt file at (arrival zs) (at + 3 + n) in
+    subst P (sym packet) (arrival_stands file at n (omega arith) (omega arith) (omega arith) room range)
 
 -- ---- one row
 

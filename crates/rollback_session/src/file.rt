@@ -10,7 +10,6 @@ ghost use Rattle.std.specs.Iterator.{at_most};
 
 use crate::event::Happening;
 use crate::refused::Refused;
-use byte_numbers::LittleEndian;
 
 const TICK: u8 = 0;
 
@@ -26,48 +25,23 @@ pub struct Placed<'a> {
     pub next: usize,
 }
 
-// The event of bytes that came which begins at a place: the packet is a part of the file.
-fn arrival_at(file: &[u8], at: usize) -> Result<Placed<'_>, Refused>
-    requires { (at + 1 ≤ length file.now) × (slice_index file.now at ≡ 1) }
-    ensures { MatchResult result (λ p. StandsAt file.now at (event_of p.event) p.next) (λ f. (f ≡ Event at) × NoEvent (drop at file.now)) }
-{
-    let cut = file.len() - at < HEAD;
-    if cut {
-        return Err(Refused::Event(at));
-    }
-    let from = at + HEAD;
-    let length = usize::from(u16::get(file, at + 1));
-    let short = file.len() - from < length;
-    if short {
-        return Err(Refused::Event(at));
-    }
-    let next = from + length;
-    Ok(Placed {
-        event: Happening::Arrival(&file[from..next]),
-        next,
-    })
-}
-
-// The event that begins at a place of a file; or that there is none.
+// The event that begins at a place of a file; or that there is none. A packet is a part of the file.
 pub fn event_at(file: &[u8], at: usize) -> Result<Placed<'_>, Refused>
     ensures { MatchResult result (λ p. StandsAt file.now at (event_of p.event) p.next) (λ f. (f ≡ Event at) × NoEvent (drop at file.now)) }
 {
-    let past = file.len() <= at;
-    if past {
-        return Err(Refused::Event(at));
-    }
-    match file[at] {
-        TICK => {
-            let cut = file.len() - at < 2;
-            if cut {
-                return Err(Refused::Event(at));
-            }
+    match file.get(at..) {
+        Some([TICK, input, ..]) => Ok(Placed {
+            event: Happening::Tick(*input),
+            next: at + 2,
+        }),
+        Some([ARRIVAL, low, high, rest @ ..]) => {
+            let length = usize::from(u16::from_le_bytes([*low, *high]));
+            let bytes = rest.get(..length).ok_or(Refused::Event(at))?;
             Ok(Placed {
-                event: Happening::Tick(file[at + 1]),
-                next: at + 2,
+                event: Happening::Arrival(bytes),
+                next: at + HEAD + length,
             })
         }
-        ARRIVAL => arrival_at(file, at),
         _ => Err(Refused::Event(at)),
     }
 }

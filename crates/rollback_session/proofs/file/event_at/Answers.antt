@@ -1,18 +1,9 @@
-use Rattle.std.proofs.Common.{refl, arith}
-use Rattle.rollback_session.proofs.Filed.{tick_stands, stands_whole}
+use Rattle.std.proofs.Common.{arith}
+use Rattle.rollback_session.proofs.Filed.{arrival_here}
 use Rattle.rollback_session.proofs.file.event_at.Goals as goal
 
-pub returns-then-past : goal.returns-then-past
-returns-then-past c =
-    (refl, λ e rest h is. let w = stands_whole c.args.file.now c.args.at e rest h is in omega arith)
-
-pub returns-then-cut : goal.returns-then-cut
-returns-then-cut c =
-    (refl, λ e rest h is. let w = stands_whole c.args.file.now c.args.at e rest h is in omega arith)
-
-pub returns-else-cut : goal.returns-else-cut
-returns-else-cut c = tick_stands c.args.file.now c.args.at (omega arith) c.in-0.is
-
-pub returns-in_default : goal.returns-in_default
-returns-in_default c =
-    (refl, λ e rest h is. let w = stands_whole c.args.file.now c.args.at e rest h is in omega arith)
+pub returns-in_ok-bytes-in-Some-eq1 : goal.returns-in_ok-bytes-in-Some-eq1
+returns-in_ok-bytes-in-Some-eq1 c =
+    let front = c.in-Some-eq1.ensures.lookup.0 in
+    let part = (rw c.in_ok-bytes-in-Some-eq1.ensures.ok_part at c.get-in-Some-eq1.ensures.lookup).0 in
+    arrival_here c.args.file.now c.in-Some-eq1.field-0.now _ c.args.at c.from-length.result _ front.0 front.2 c.in-Some-eq1.len_at_least (omega arith) (omega arith) (omega arith) (λ i. (c.type_inv.file i).fits) part.1 part.2
