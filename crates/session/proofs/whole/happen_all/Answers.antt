@@ -1,10 +1,8 @@
-use Rattle.std.proofs.Common.{leb, List, map, sym, refl, subst, arith}
-use Rattle.std.proofs.lemmas.List.{take_all}
+use Rattle.std.proofs.Common.{leb, sym, refl, subst}
 use Rattle.peer.specs.Lent.{log_of}
 use Rattle.peer.specs.Peers.{Log, run}
 use Rattle.peer.specs.Rows.{Memory, StandsFor}
 use Rattle.peer.proofs.Rowed.{stands_more}
-use Rattle.rollback_session.specs.declared.event.Happening.{Happening}
 use Rattle.rollback_session.specs.declared.event.Happening.TheVariants.{Tick}
 use Rattle.rollback_session.specs.Events.{event_of}
 use Rattle.session.proofs.Rowed.{run_more}
@@ -23,10 +21,3 @@ loop-event-preserved c =
     let s = stands_more (λ a. leb a 15) p.seat p.window _ m n _ c.loop-event.invariant c.happen.ensures.happens in
     let P : Log → Type 0 = λ l. StandsFor p.seat p.window l n in
     subst P (sym (run_more event_of (λ a. leb a 15) p.window log c.args.events.now c.loop-event.event-index (Tick 0) c.loop-event-test.true)) s
-
-pub returns : goal.returns
-returns c =
-    let p = c.args.p.now in
-    let log = log_of p c.args.inputs.now in
-    let P : List Happening → Type 0 = λ es. StandsFor p.seat p.window (run (λ a. leb a 15) p.window log (map event_of es)) (record { peer = c.loop-event.p; inputs = c.loop-event.inputs }) in
-    subst P (take_all c.loop-event.event-index c.args.events.now (omega arith)) c.loop-event.invariant
