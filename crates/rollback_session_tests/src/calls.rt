@@ -19,10 +19,7 @@ fn step(
     file: &[u8],
     out: &mut [u8; PACKET_LENGTH],
 ) -> Result<Answer, Fail> {
-    match event_at(file, 0) {
-        Ok(placed) => Ok(happen(p, inputs, states, placed.event, out)),
-        Err(_) => Err(Fail::new("no event")),
-    }
+    Ok(happen(p, inputs, states, event_at(file, 0)?.event, out))
 }
 
 fn check_front(rt: &impl Abort, out: &[u8; PACKET_LENGTH], front: &[u8; 14]) -> Result<(), Fail> {

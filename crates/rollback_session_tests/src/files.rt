@@ -1,9 +1,9 @@
 // Files of events for tests, and tests of reading them.
 use packet::Fault;
 use peer::Refusal;
-use rollback_session::file::{arrival_head, check_events, event_at};
+use rollback_session::file::{Events, Placed, arrival_head, check_events, event_at};
 use rollback_session::{Happening, Refused};
-use std::alloc::{AllocError, AllocGlobal, Global};
+use std::alloc::{AllocGlobal, Global};
 use std::process::Abort;
 use std::test::*;
 
@@ -27,61 +27,54 @@ pub(crate) fn arrival(file: &mut Vec<u8>, bytes: &[u8]) -> Result<(), Fail> {
 }
 
 // A packet's bytes, by its first frame, its acknowledgement and at most 255 inputs, right or wrong.
-pub(crate) fn packet(
-    heap: Global,
-    first: u32,
-    ack: u8,
-    inputs: &[u8],
-) -> Result<Vec<u8>, AllocError> {
+pub(crate) fn packet(heap: Global, first: u32, ack: u8, inputs: &[u8]) -> Result<Vec<u8>, Fail> {
     let mut bytes = Vec::new(heap);
     bytes.push(b'H')?;
     bytes.extend_from_slice(&first.to_le_bytes())?;
-    bytes.push((inputs.len() & 0xff) as u8)?;
+    bytes.push(u8::try_from(inputs.len())?)?;
     bytes.extend_from_slice(&[ack, 0, 0, 0])?;
     bytes.extend_from_slice(inputs)?;
     Ok(bytes)
 }
 
-// Whether the event at a place is a tick with this input, and where the next begins.
-fn is_tick(file: &[u8], at: usize, input: u8, next: usize) -> bool {
-    match event_at(file, at) {
-        Ok(placed) => match placed.event {
-            Happening::Tick(found) => found == input && placed.next == next,
-            Happening::Arrival(_) => false,
-        },
-        Err(_) => false,
-    }
+fn tick_before(input: u8, next: usize) -> Result<Placed<'static>, Refused> {
+    Ok(Placed {
+        event: Happening::Tick(input),
+        next,
+    })
 }
 
-fn is_arrival(file: &[u8], at: usize, bytes: &[u8], next: usize) -> bool {
-    match event_at(file, at) {
-        Ok(placed) => match placed.event {
-            Happening::Tick(_) => false,
-            Happening::Arrival(found) => found == bytes && placed.next == next,
-        },
-        Err(_) => false,
-    }
-}
-
-fn none_at(file: &[u8], at: usize) -> bool {
-    match event_at(file, at) {
-        Ok(_) => false,
-        Err(f) => f == Refused::Event(at),
-    }
+fn arrival_before(bytes: &[u8], next: usize) -> Result<Placed<'_>, Refused> {
+    Ok(Placed {
+        event: Happening::Arrival(bytes),
+        next,
+    })
 }
 
 #[test]
 fn events_by_their_places(rt: HostRuntime) -> Result<(), Fail> {
     let file = [0, 200, 1, 3, 0, 7, 0, 9, 0, 4, 1, 0, 0];
-    assert!(rt; is_tick(&file, 0, 200, 2));
-    assert!(rt; is_arrival(&file, 2, &[7, 0, 9], 8));
-    assert!(rt; is_tick(&file, 8, 4, 10));
-    assert!(rt; is_arrival(&file, 10, &[], 13));
-    assert!(rt; none_at(&file, 1));
-    assert!(rt; none_at(&file, 13));
-    assert!(rt; none_at(&file, 99));
+    assert_eq!(rt; event_at(&file, 0), tick_before(200, 2));
+    assert_eq!(rt; event_at(&file, 2), arrival_before(&[7, 0, 9], 8));
+    assert_eq!(rt; event_at(&file, 8), tick_before(4, 10));
+    assert_eq!(rt; event_at(&file, 10), arrival_before(&[], 13));
+    assert_eq!(rt; event_at(&file, 1), Err(Refused::Event(1)));
+    assert_eq!(rt; event_at(&file, 13), Err(Refused::Event(13)));
+    assert_eq!(rt; event_at(&file, 99), Err(Refused::Event(99)));
     assert_eq!(rt; check_events(&file), Ok(4));
     assert_eq!(rt; check_events(&[]), Ok(0));
+    Ok(())
+}
+
+// One after the other, and none behind what is no event.
+#[test]
+fn events_in_a_row(rt: HostRuntime) -> Result<(), Fail> {
+    let mut events = Events::of(&[0, 200, 1, 3, 0, 7, 0, 9, 2, 0, 4]);
+    assert_eq!(rt; events.next(), Some(Ok(Happening::Tick(200))));
+    assert_eq!(rt; events.next(), Some(Ok(Happening::Arrival(&[7, 0, 9]))));
+    assert_eq!(rt; events.next(), Some(Err(Refused::Event(8))));
+    assert_eq!(rt; events.next(), None);
+    assert_eq!(rt; Events::of(&[]).next(), None);
     Ok(())
 }
 

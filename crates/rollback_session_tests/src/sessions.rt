@@ -127,13 +127,13 @@ fn packets_join(rt: HostRuntime) -> Result<(), Fail> {
     )
 }
 
-// The number and the place that a session is refused with, by its window and the length of the lent memory; 0 and 0 where it begins.
+// The number and the place that a session is refused with, by its window and the length of the lent memory; none where it begins.
 fn told(
     rt: &(impl Abort + AllocGlobal),
     window: usize,
     lent: (usize, usize, usize),
     file: &[u8],
-) -> Result<(u8, usize), Fail> {
+) -> Result<Option<(u8, usize)>, Fail> {
     let mut inputs = vec![in rt.alloc(); 7u8; lent.0]?;
     let mut states = vec![in rt.alloc(); 0u8; lent.1]?;
     let mut picture = vec![in rt.alloc(); 9u8; lent.2]?;
@@ -145,11 +145,11 @@ fn told(
         picture.as_mut_slice(),
         file,
     ) {
-        Ok(_) => Ok((0, 0)),
+        Ok(_) => Ok(None),
         Err(f) => {
             let untouched = (inputs.first().copied(), picture.first().copied());
             assert!(rt; untouched.0.unwrap_or(7) == 7 && untouched.1.unwrap_or(9) == 9);
-            Ok((f.number(), f.place()))
+            Ok(Some((f.number(), f.place())))
         }
     }
 }
@@ -161,32 +161,32 @@ fn refusals(rt: HostRuntime) -> Result<(), Fail> {
     ticks(&mut file, &[1; 3])?;
     assert_eq!(rt;
         told(&rt, 1, (2_000_000, 128, 19200), file.as_slice())?,
-        (0, 0)
+        None
     );
     file.push(2)?;
     assert_eq!(rt;
         told(&rt, 1, (2_000_000, 128, 19200), file.as_slice())?,
-        (4, 6)
+        Some((4, 6))
     );
     assert_eq!(rt;
         told(&rt, 1, (2_000_000, 128, 19199), file.as_slice())?,
-        (5, 3)
+        Some((5, 3))
     );
     assert_eq!(rt;
         told(&rt, 1, (2_000_000, 127, 19199), file.as_slice())?,
-        (5, 2)
+        Some((5, 2))
     );
     assert_eq!(rt;
         told(&rt, 1, (1_999_999, 127, 19199), file.as_slice())?,
-        (5, 1)
+        Some((5, 1))
     );
     assert_eq!(rt;
         told(&rt, 61, (1_999_999, 127, 19199), file.as_slice())?,
-        (5, 0)
+        Some((5, 0))
     );
     assert_eq!(rt;
         told(&rt, 0, (1_999_999, 127, 19199), file.as_slice())?,
-        (5, 0)
+        Some((5, 0))
     );
     Ok(())
 }

@@ -66,13 +66,13 @@ fn wrong_events_change_nothing(rt: HostRuntime) -> Result<(), Fail> {
     check_picture(&rt, Seat::Right, 60, &events, &[8; 4], &[2, 4, 4, 4])
 }
 
-// The number and the place that a session is refused with, by its window and the length of the lent picture; 0 and 0 where it begins.
+// The number and the place that a session is refused with, by its window and the length of the lent picture; none where it begins.
 fn told(
     rt: HostRuntime,
     window: usize,
     length: usize,
     events: &[Happening],
-) -> Result<(u8, usize), Fail> {
+) -> Result<Option<(u8, usize)>, Fail> {
     let mut inputs = vec![in rt.alloc(); 7u8; 2_000_000]?;
     let states = vec![in rt.alloc(); 0u8; 128]?;
     let mut picture = vec![in rt.alloc(); 9u8; length]?;
@@ -84,21 +84,21 @@ fn told(
         picture.as_mut_slice(),
         events,
     ) {
-        Ok(_) => Ok((0, 0)),
-        Err(f) => Ok((f.number(), f.place())),
+        Ok(_) => Ok(None),
+        Err(f) => Ok(Some((f.number(), f.place()))),
     }
 }
 
 #[test]
 fn refusals(rt: HostRuntime) -> Result<(), Fail> {
     let events = [Happening::Tick(0), Happening::Arrival(&THREE_EIGHTS)];
-    assert_eq!(rt; told(rt, 0, 19200, &events)?, (5, 0));
+    assert_eq!(rt; told(rt, 0, 19200, &events)?, Some((5, 0)));
     assert_eq!(rt;
         told(rt, 2, 19199, &events)?,
-        (5, 2),
+        Some((5, 2)),
         "the states come before the picture"
     );
-    assert_eq!(rt; told(rt, 1, 19199, &events)?, (5, 3));
-    assert_eq!(rt; told(rt, 1, 19200, &events)?, (0, 0));
+    assert_eq!(rt; told(rt, 1, 19199, &events)?, Some((5, 3)));
+    assert_eq!(rt; told(rt, 1, 19200, &events)?, None);
     Ok(())
 }
