@@ -168,7 +168,7 @@ pub given_broken : (file : List ℕ) (es : List Event) (s t : Events) (f : Refus
 given_broken file es s t f gives g =
     (gives.2, read_broken file es s.at g.read (rw g.file_is at gives.1) (rw g.file_is at gives.3))
 
--- of a file that is a row of events no refusal comes
-pub given_ok : (file : List ℕ) (es fs : List Event) (s t : Events) (r : Result Happening Refused) → FileOf fs file → GivesEvent s (Some r) t → Given file es s → IsOk r
-given_ok file es fs s t (Ok h) k gives g = refl
-given_ok file es fs s t (Err f) k gives g = absurd ((one_row file fs k).1 s.at (given_broken file es s t f gives g).1)
+-- of a file that is nowhere in fault no refusal comes
+pub given_ok : (file : List ℕ) (es : List Event) (s t : Events) (r : Result Happening Refused) → ((at : ℕ) → FaultyAt file at → ⊥) → GivesEvent s (Some r) t → Given file es s → IsOk r
+given_ok file es s t (Ok h) whole gives g = refl
+given_ok file es s t (Err f) whole gives g = absurd (whole s.at (given_broken file es s t f gives g).1)

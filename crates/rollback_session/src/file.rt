@@ -19,7 +19,7 @@ const ARRIVAL: u8 = 1;
 pub const HEAD: usize = 3;
 
 // An event of a file, and where the next one would begin.
-#[derive(Clone, Copy)]
+#[derive(Clone, Copy, PartialEq, Eq, Debug)]
 pub struct Placed<'a> {
     pub event: Happening<'a>,
     pub next: usize,

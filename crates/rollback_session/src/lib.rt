@@ -8,6 +8,7 @@ pub mod calls;
 pub mod event;
 pub mod file;
 pub mod refused;
+pub mod row;
 pub mod statements;
 pub mod status;
 pub mod whole;

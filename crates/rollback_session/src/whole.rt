@@ -11,18 +11,17 @@ ghost use Rattle.rollback_session.specs.Rows.{After, log_after, memory};
 ghost use Rattle.rollback_session.specs.Whole.{Answered};
 
 use crate::calls::{PACKET_LENGTH, begin, check_lent, draw, happen};
-use crate::file::{Events, check_events};
 use crate::refused::Refused;
+use crate::row::Row;
 use game::seat::Seat;
 use peer::Peer;
 
-// All events of a file that is a row of them, right and wrong. None of them is a refusal.
-fn happen_all(p: &mut Peer, inputs: &mut [u8], states: &mut [u8], file: &[u8])
-    requires { (es : List Event) × FileOf es file.now }
-    ensures { (seat : At) (window : ℕ) (before es : List Event) → After seat window before (memory p.old inputs.old states.old) → FileOf es file.now → After seat window (before ++ es) (memory p.new inputs.new states.new) }
+// All events of a row, right and wrong.
+fn happen_all(p: &mut Peer, inputs: &mut [u8], states: &mut [u8], row: Row)
+    ensures { (seat : At) (window : ℕ) (before es : List Event) → After seat window before (memory p.old inputs.old states.old) → FileOf es row.entry.file.now → After seat window (before ++ es) (memory p.new inputs.new states.new) }
 {
     let mut out = [0; PACKET_LENGTH];
-    for event in Events::of(file) {
+    for event in row.events() {
         let _ = happen(p, inputs, states, event.unwrap(), &mut out);
     }
 }
@@ -44,9 +43,9 @@ pub fn play_session(
     ensures shown { OnOk result ((es : List Event) → FileOf es file.now → picture.new ≡ picture_of (shows court_game seat (log_after window es)) ++ drop 19200 picture.old) }
 {
     check_lent(window, inputs, states, picture)?;
-    check_events(file)?;
+    let row = Row::of(file)?;
     let mut p = begin(seat, window, inputs, states, picture)?;
-    happen_all(&mut p, inputs, states, file);
+    happen_all(&mut p, inputs, states, row);
     let _ = draw(&p, states, picture);
     Ok(p)
 }

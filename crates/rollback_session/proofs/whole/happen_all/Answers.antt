@@ -8,7 +8,7 @@ use Rattle.rollback_session.proofs.whole.happen_all.Goals as goal
 
 pub loop-event-init : goal.loop-event-init
 loop-event-init c =
-    let given : Given c.args.file.now [] c.into_iter-event-iterator.result = rw c.into_iter-event-iterator.ensures.into_iter_gives (given_none _ _ c.of-event-items.ensures) in (
+    let given : Given c.args.row.file.now [] c.into_iter-event-iterator.result = rw c.into_iter-event-iterator.ensures.into_iter_gives (given_none _ _ c.events-event-items.ensures) in (
       tt,
       tt,
       (
@@ -23,7 +23,7 @@ loop-event-init c =
 pub unwrap-requires : goal.unwrap-requires
 unwrap-requires c =
     let inv = c.loop-event.invariant.2 in
-    given_ok _ inv.0 c.requires.0 _ _ _ c.requires.1 c.in-Some.ensures.steps inv.1
+    given_ok _ inv.0 _ _ _ c.args.row.whole c.in-Some.ensures.steps inv.1
 
 pub loop-event-preserved : goal.loop-event-preserved
 loop-event-preserved c =
@@ -44,7 +44,7 @@ loop-event-preserved c =
 pub returns : goal.returns
 returns c seat window before es a f =
     let inv = c.loop-event.invariant.2 in
-    let file = c.args.file.now in
+    let file = c.args.row.file.now in
     let same : inv.0 ≡ es = (one_row file inv.0 (given_all file inv.0 _ _ c.in-None.ensures.steps inv.1)).0 es f in
     let P : List Event → Type 0 = λ xs. After seat window (before ++ xs) (memory c.loop-event.p c.loop-event.inputs c.loop-event.states) in
     subst P same (inv.2 seat window before a)
