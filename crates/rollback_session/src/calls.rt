@@ -1,4 +1,4 @@
-// One call for each event, and what the peer then shows and sends, of the court's game.
+// One call for each event, and what the peer then shows and sends, of the court's game. Memory is lent at each call.
 ghost use Rattle.std.specs.Prelude.{◌≡◌, ℕ, ◌+◌, ◌*◌, ◌<◌, ◌≤◌, true, List, [], ◌∷◌, ◌++◌, length, drop, is_ok, is_err, IfOk, MatchResult, ◌≢◌, nat_le};
 ghost use Rattle.court_game.specs.Games.{court_game};
 ghost use Rattle.court_game.specs.Saved.{court_saved};
