@@ -1,12 +1,12 @@
-use Rattle.std.proofs.Common.{◌≡◌, ◌+◌, ◌*◌, ◌≤◌, [], length, sym, subst}
+use Rattle.std.proofs.Common.{◌+◌, ◌*◌, ◌≤◌, [], length, sym, subst}
+use Rattle.rollback_session.specs.Files.{FileOf}
 use Rattle.rollback_session.specs.Rows.{After, memory}
 use Rattle.rollback_session.proofs.Drawn.{enough, drawn_ok}
 use Rattle.rollback_session.proofs.whole.play_session.Goals as goal
 
 pub returns-clause-row : goal.returns-clause-row
 returns-clause-row c =
-    let same : c.in_ok-row.row.file.now ≡ c.args.file.now = c.in_ok-row.ensures.0 in
-    λ es f. c.happen_all.ensures c.args.seat c.args.window [] es c.in_ok-p.ensures.row (rw same f)
+    λ es f. c.happen_all.ensures c.args.seat c.args.window [] es c.in_ok-p.ensures.row (subst (FileOf es) (sym c.in_ok-row.ensures.0) f)
 
 pub returns-clause-shown : goal.returns-clause-shown
 returns-clause-shown c = λ es f.
