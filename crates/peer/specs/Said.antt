@@ -37,11 +37,14 @@ said_read (Err f) = Refused (Packet f)
 unfoldable pub said_arrival : ℕ → Log → List ℕ → Outcome
 said_arrival lent log xs = cond (nat_lt lent 2000000) (Refused Inputs) (said_read (reading (length log.own) xs))
 
--- and of a new peer, by the lengths of the lent inputs and states: first the window, then the inputs, then the states, 64 bytes each
+-- lent memory, by its lengths: the inputs, then the states, 64 bytes each and one more than the window
+abbrev pub memory_checked : ℕ → ℕ → ℕ → Result (Unit {0}) Refusal
+memory_checked window inputs states =
+    cond (nat_lt inputs 2000000) (Err Inputs) (cond (nat_lt states ((window + 1) * 64)) (Err States) (Ok tt))
+
+-- and of a new peer: first the window, then the memory
 unfoldable pub begin_checked : ℕ → ℕ → ℕ → Result (Unit {0}) Refusal
-begin_checked window inputs states =
-    cond (nat_lt window 1 || nat_lt 60 window) (Err Window)
-    (cond (nat_lt inputs 2000000) (Err Inputs) (cond (nat_lt states ((window + 1) * 64)) (Err States) (Ok tt)))
+begin_checked window inputs states = cond (nat_lt window 1 || nat_lt 60 window) (Err Window) (memory_checked window inputs states)
 
 abbrev pub as_checked : Result Peer Refusal → Result (Unit {0}) Refusal
 as_checked (Ok p) = Ok tt

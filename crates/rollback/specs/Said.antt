@@ -1,23 +1,19 @@
 -- What events come to. Assumes nothing: these are definitions.
-use Rattle.std.specs.Prelude.{ℕ, ◌+◌, ◌*◌, Bool, cond, ◌||◌, List, length, Ok, Err, Result, nat_lt}
+use Rattle.std.specs.Prelude.{ℕ, Bool, cond, List, length, Ok, Err, Result}
 use Rattle.packet.specs.Wire.{Message, reading}
 use Rattle.packet.specs.declared.fault.Fault.{Fault}
 use Rattle.peer.specs.declared.outcome.Refusal.{Refusal}
-use Rattle.peer.specs.declared.outcome.Refusal.TheVariants.{Input, Packet, Window, Inputs, States}
+use Rattle.peer.specs.declared.outcome.Refusal.TheVariants.{Input, Packet}
 use Rattle.peer.specs.Peers.{Log, goes_on, heard, to_play}
+use Rattle.peer.specs.Said.{memory_checked}
 use Rattle.rollback.specs.declared.outcome.Outcome.{Outcome}
 use Rattle.rollback.specs.declared.outcome.Outcome.TheVariants.{Taken, Lost, Refused}
-
--- lent memory is looked at first, by its lengths: the inputs, then the states, 64 bytes each and one more than the window
-abbrev pub memory_checked : ℕ → ℕ → ℕ → Result (Unit {0}) Refusal
-memory_checked window inputs states =
-    cond (nat_lt inputs 2000000) (Err Inputs) (cond (nat_lt states ((window + 1) * 64)) (Err States) (Ok tt))
 
 abbrev pub if_checked : Result (Unit {0}) Refusal → Outcome → Outcome
 if_checked (Ok _) o = o
 if_checked (Err f) o = Refused f
 
--- what is said of a tick, by the lengths of the lent inputs and states: it plays one frame
+-- lent memory is looked at first; what is said of a tick, by the lengths of the lent inputs and states: it plays one frame
 unfoldable pub said_tick : (ℕ → Bool) → ℕ → ℕ → ℕ → Log → ℕ → Outcome
 said_tick fits window inputs states log a =
     if_checked (memory_checked window inputs states) (cond (fits a) (cond (goes_on window log) (Taken 1) Lost) (Refused Input))
@@ -30,7 +26,3 @@ said_read log (Err f) = Refused (Packet f)
 -- of bytes that came
 unfoldable pub said_arrival : ℕ → ℕ → ℕ → Log → List ℕ → Outcome
 said_arrival window inputs states log xs = if_checked (memory_checked window inputs states) (said_read log (reading (length log.own) xs))
-
--- and of a new peer: first the window, then the memory
-unfoldable pub begin_checked : ℕ → ℕ → ℕ → Result (Unit {0}) Refusal
-begin_checked window inputs states = cond (nat_lt window 1 || nat_lt 60 window) (Err Window) (memory_checked window inputs states)

@@ -5,7 +5,7 @@ ghost use Rattle.court_game.specs.Saved.{court_saved};
 ghost use Rattle.game.specs.declared.seat.Seat.{Seat as At};
 ghost use Rattle.packet.specs.Wire.{message_length};
 ghost use Rattle.peer.specs.Lent.{Long, log_of};
-ghost use Rattle.rollback.specs.Said.{begin_checked};
+ghost use Rattle.peer.specs.Said.{begin_checked};
 ghost use Rattle.peer.specs.Peers.{Event, shows, sends};
 ghost use Rattle.rollback.specs.declared.outcome.Outcome.TheVariants.{Taken};
 ghost use Rattle.peer.specs.declared.outcome.Refusal.TheVariants.{States};

@@ -1,4 +1,4 @@
-use Rattle.session.proofs.Drawn.{enough}
+use Rattle.rollback_session.proofs.Drawn.{enough}
 use Rattle.session.proofs.whole.play_session.Goals as goal
 
 pub happen_all-requires : goal.happen_all-requires
