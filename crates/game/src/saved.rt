@@ -17,7 +17,7 @@ pub trait SavedGame: Game {
     // The state that a value stands for.
     ghost state: { Self → states };
 
-    // Writes the state's bytes.
+    // Writes the state's bytes. They are a slice and no array: a saved state is a part of the one slice that is lent for all.
     fn save(self, part: &mut [u8])
         requires { length part.old ≡ 64 }
         ensures { part.new ≡ saved.coded (state self) };

@@ -153,7 +153,7 @@ fn begins(rt: HostRuntime) -> Result<(), Fail> {
     Ok(())
 }
 
-// The packet that is sent begins at the most that was acknowledged, and has at most 120 inputs.
+// The packet that is sent begins at the most that was acknowledged.
 #[test]
 fn sends(rt: HostRuntime) -> Result<(), Fail> {
     let mut inputs = vec![in rt.alloc(); 7u8; 2_000_000]?;

@@ -18,7 +18,8 @@ fn character(dot: u8) -> char
     }
 }
 
-// Dot k of a picture, and the line's end behind it where it is the last of its row.
+// Dot k of a picture, and the line's end behind it where it is the last of its row. By the dot's number: by chunks of a row's length
+// a part of a row at the end would get a line's end too.
 fn push_dot(text: &mut String, k: usize, dot: u8) -> Result<(), AllocError>
     ensures { OnOk result (string_bytes text.new ≡ string_bytes text.old ++ dot_text k dot) }
 {

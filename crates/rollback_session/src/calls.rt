@@ -77,7 +77,7 @@ fn carry_out(p: &mut Peer, inputs: &mut [u8], states: &mut [u8], event: Happenin
     }
 }
 
-// Whether a packet is written.
+// Whether an event has the packet written that the peer sends: a tick that was not refused.
 fn is_told(event: Happening, outcome: Outcome) -> bool
     ensures { result ≡ writes (event_of event.entry) outcome }
 {
