@@ -6,7 +6,7 @@
 
 use anyhow::bail;
 use court::{Court, Input};
-use packet::Packet;
+use packet::{MOST_LENGTH, Packet};
 use picture::{LENGTH, draw};
 use std::env;
 use std::process::ExitCode;
@@ -42,7 +42,7 @@ fn pictures(count: u32, picture: &mut [u8]) -> u64 {
 }
 
 // Packet k: its number of inputs goes from 0 to 120 and begins anew.
-fn packets(count: u32, buffer: &mut [u8; 130]) -> u64 {
+fn packets(count: u32, buffer: &mut [u8; MOST_LENGTH]) -> u64 {
     let mut sum: u64 = 0;
     for k in 0..count {
         let inputs = (k % 121) as u8;
@@ -71,7 +71,7 @@ fn run(rt: &HostRuntime) -> anyhow::Result<()> {
             pictures(count, picture.as_mut_slice())
         }
         "packets" => {
-            let mut buffer = [7u8; 130];
+            let mut buffer = [7u8; MOST_LENGTH];
             buffer[0] = b'H';
             buffer[3..5].fill(0);
             buffer[8..10].fill(0);

@@ -8,6 +8,7 @@ ghost use Rattle.court_game.specs.Snapshots.{ball_bytes, paddle_bytes, state_byt
 use byte_numbers::LittleEndian;
 use court::state::{Ball, Paddle, Score};
 use court::{Court, State};
+use game::saved::STATE_BYTES;
 
 // Where the parts of a state lie. The ball is first.
 const LEFT_AT: usize = 16;
@@ -17,8 +18,6 @@ const RIGHT_AT: usize = 24;
 const SCORE_AT: usize = 32;
 
 const REST_AT: usize = 35;
-
-const END: usize = 64;
 
 fn put_ball(part: &mut [u8], ball: Ball)
     requires { 16 ≤ length part.old }
@@ -48,7 +47,7 @@ pub fn save_state(court: Court, part: &mut [u8])
     put_paddle(part, LEFT_AT, s.left);
     put_paddle(part, RIGHT_AT, s.right);
     part[SCORE_AT..REST_AT].copy_from_slice(&[s.score.left, s.score.right, s.wait]);
-    part[REST_AT..END].fill(0);
+    part[REST_AT..STATE_BYTES].fill(0);
 }
 
 fn get_ball(part: &[u8]) -> Ball

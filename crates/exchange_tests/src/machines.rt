@@ -2,6 +2,8 @@
 use exchange::machine::Machine;
 use exchange::tally::Tally;
 use game::seat::Seat;
+use peer::memory::INPUTS;
+use picture::LENGTH;
 use rollback::Outcome;
 use rollback_session::calls::begin;
 use std::test::Fail;
@@ -9,9 +11,9 @@ use std::test::Fail;
 // The packet of a tick, as it is laid out, then a packet of the other's and one of which there is none.
 #[test]
 fn a_tick_and_a_packet(rt: HostRuntime) -> Result<(), Fail> {
-    let mut inputs = vec![in rt.alloc(); 7u8; 2_000_000]?;
+    let mut inputs = vec![in rt.alloc(); 7u8; INPUTS]?;
     let mut states = vec![in rt.alloc(); 9u8; 128]?;
-    let picture = vec![in rt.alloc(); 0u8; 19_200]?;
+    let picture = vec![in rt.alloc(); 0u8; LENGTH]?;
     let lent = states.as_mut_slice();
     let Ok(peer) = begin(Seat::Left, 1, inputs.as_slice(), lent, picture.as_slice()) else {
         panic!(rt; "a session does not begin");

@@ -4,16 +4,13 @@ use exchange::moves::{Act, Move};
 use exchange::run::{Both, Played, Unplayed, play_moves};
 use exchange::tally::Tally;
 use game::seat::Seat;
+use peer::log::HALF;
+use peer::memory::{INPUTS, MOST_STATES};
+use picture::LENGTH;
 use rollback_session::calls::draw;
 use std::alloc::AllocGlobal;
 use std::process::Abort;
 use std::test::Fail;
-
-const INPUTS: usize = 2_000_000;
-
-const STATES: usize = 61 * 64;
-
-const PICTURE: usize = 19_200;
 
 // One machine's memory.
 #[derive(Drop)]
@@ -46,7 +43,7 @@ fn play_row(
     right: &mut Memory,
     row: &[Move],
 ) -> Result<Result<Both, Unplayed>, Fail> {
-    let picture = vec![in rt.alloc(); 0u8; PICTURE]?;
+    let picture = vec![in rt.alloc(); 0u8; LENGTH]?;
     Ok(play_moves(
         rt.alloc(),
         window,
@@ -72,10 +69,10 @@ fn check_machine(
     assert_eq!(rt; played.peer.own, own.len());
     assert_eq!(rt; played.peer.other, other.len());
     assert!(rt; inputs.starts_with(own));
-    assert!(rt; inputs.get(INPUTS / 2..).unwrap_or(&[]).starts_with(other));
+    assert!(rt; inputs.get(HALF..).unwrap_or(&[]).starts_with(other));
     let (left, right) = seat.in_order(own, other);
-    let mut shown = vec![in rt.alloc(); 0u8; PICTURE]?;
-    let mut plain = vec![in rt.alloc(); 0u8; PICTURE]?;
+    let mut shown = vec![in rt.alloc(); 0u8; LENGTH]?;
+    let mut plain = vec![in rt.alloc(); 0u8; LENGTH]?;
     assert!(rt; draw(&played.peer, memory.states.as_slice(), shown.as_mut_slice()).is_ok());
     assert!(rt; picture::draw(play(left, right), plain.as_mut_slice()).is_ok());
     assert_eq!(rt; shown.as_slice(), plain.as_slice());
@@ -90,8 +87,8 @@ fn check_row(
     left: &[u8],
     right: &[u8],
 ) -> Result<(Tally, Tally), Fail> {
-    let mut at_left = lend(rt, STATES)?;
-    let mut at_right = lend(rt, STATES)?;
+    let mut at_left = lend(rt, MOST_STATES)?;
+    let mut at_right = lend(rt, MOST_STATES)?;
     let Ok(both) = play_row(rt, window, &mut at_left, &mut at_right, row)? else {
         panic!(rt; "the row is not played");
     };
@@ -158,8 +155,8 @@ fn tallies(rt: HostRuntime) -> Result<(), Fail> {
 #[test]
 fn beginnings(rt: HostRuntime) -> Result<(), Fail> {
     check_row(&rt, 60, &[], &[], &[])?;
-    for (window, states, place) in [(0, 64, 0), (61, STATES, 0), (1, 127, 2)] {
-        let mut left = lend(&rt, STATES)?;
+    for (window, states, place) in [(0, 64, 0), (61, MOST_STATES, 0), (1, 127, 2)] {
+        let mut left = lend(&rt, MOST_STATES)?;
         let mut right = lend(&rt, states)?;
         match play_row(&rt, window, &mut left, &mut right, &[])? {
             Err(Unplayed::Refused(refused)) => {

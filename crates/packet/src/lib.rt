@@ -26,6 +26,9 @@ const MARK: u8 = b'H';
 // As many inputs as a packet has at most.
 pub const MOST_INPUTS: u8 = 120;
 
+// As many bytes as a packet has at most. A constant's value calls no `from`.
+pub const MOST_LENGTH: usize = INPUTS_AT + MOST_INPUTS as usize;
+
 const MOST_FRAMES: u64 = 1_000_000;
 
 const LARGEST_INPUT: u8 = 15;

@@ -32,6 +32,7 @@ pub fn tick<G: Game>(p: &mut Peer, inputs: &mut [u8], input: u8) -> Outcome
     ensures happens { Happened G.rules.fits p.old inputs.old (ticked input) p.new inputs.new }
     ensures idle { (result ≢ Taken) → (p.new ≡ p.old) × (inputs.new ≡ inputs.old) }
 {
+    // An outcome is no Result, so `?` would take a function more for this one error.
     if let Err(refusal) = check_inputs(inputs) {
         return Outcome::Refused(refusal);
     }
@@ -52,10 +53,11 @@ pub fn receive(p: &mut Peer, inputs: &mut [u8], bytes: &[u8]) -> Outcome
     ensures happens { (fits : ℕ → Bool) → Happened fits p.old inputs.old (arrival bytes.now) p.new inputs.new }
     ensures idle { (result ≢ Taken) → (p.new ≡ p.old) × (inputs.new ≡ inputs.old) }
 {
+    // An outcome is no Result, so `?` would take a function more for this one error.
     if let Err(refusal) = check_inputs(inputs) {
         return Outcome::Refused(refusal);
     }
-    // An outcome is no Result, so `?` would take a function more for this one error. The check proves that the cast loses nothing.
+    // The check proves that the cast loses nothing.
     match Packet::read(bytes, p.own as u32) {
         Ok(packet) => {
             join(p, inputs, packet);

@@ -4,14 +4,21 @@ ghost use Rattle.peer.specs.declared.outcome.Refusal.TheVariants.{Inputs, States
 ghost use Rattle.peer.specs.Lent.{Long};
 
 use crate::log::HALF;
+use crate::numbers::MOST_WINDOW;
 use crate::outcome::Refusal;
 use game::saved::STATE_BYTES;
+
+// As many bytes as the inputs of both seats take.
+pub const INPUTS: usize = 2 * HALF;
+
+// As many bytes as the states of the largest window take.
+pub const MOST_STATES: usize = (MOST_WINDOW + 1) * STATE_BYTES;
 
 // Whether the inputs of both seats have room.
 pub fn check_inputs(inputs: &[u8]) -> Result<(), Refusal>
     ensures { MatchResult result (λ _. Long inputs.now) (λ f. (f ≡ Inputs) × (length inputs.now < 2000000)) }
 {
-    if inputs.len() < 2 * HALF {
+    if inputs.len() < INPUTS {
         return Err(Refusal::Inputs);
     }
     Ok(())

@@ -6,7 +6,7 @@ use crate::log::HALF;
 use crate::outcome::Refusal;
 use game::seat::Seat;
 
-const MOST_WINDOW: usize = 60;
+pub(crate) const MOST_WINDOW: usize = 60;
 
 #[derive(Clone, Copy)]
 pub struct Peer {

@@ -12,18 +12,15 @@ use court_game::plain::play;
 use exchange::moves::{Act, Move};
 use exchange::run::{Both, Played, Unplayed, play_moves};
 use game::seat::Seat;
+use peer::log::HALF;
+use peer::memory::{INPUTS, MOST_STATES};
+use picture::LENGTH;
 use rollback_session::calls::status;
 use std::alloc::{AllocError, Global};
 use std::env;
 use std::process::ExitCode;
 
 const USAGE: &str = "usage: radio SEED N TICKS LOSS TWICE DELAY ..";
-
-const INPUTS: usize = 2_000_000;
-
-const STATES: usize = 61 * 64;
-
-const PICTURE: usize = 19_200;
 
 // Ticks of a good radio at the end.
 const GOOD: u64 = 150;
@@ -171,7 +168,7 @@ impl Memory {
     fn new(heap: Global) -> Result<Memory, AllocError> {
         Ok(Memory {
             inputs: vec![in heap; 0u8; INPUTS]?,
-            states: vec![in heap; 0u8; STATES]?,
+            states: vec![in heap; 0u8; MOST_STATES]?,
         })
     }
 }
@@ -198,9 +195,7 @@ fn print_side(rt: &HostRuntime, name: &str, side: Played, states: &[u8]) -> anyh
 // The inputs of seat 0 and of seat 1 in the first frames, as a machine has them; none where they do not lie there.
 fn inputs_at(seat: Seat, inputs: &[u8], frames: usize) -> (&[u8], &[u8]) {
     let own = inputs.get(..frames).unwrap_or(&[]);
-    let other = inputs
-        .get(INPUTS / 2..(INPUTS / 2).saturating_add(frames))
-        .unwrap_or(&[]);
+    let other = inputs.get(HALF..HALF.saturating_add(frames)).unwrap_or(&[]);
     seat.in_order(own, other)
 }
 
@@ -231,7 +226,7 @@ fn run_one(rt: &HostRuntime, o: Options) -> anyhow::Result<()> {
     let moves = make_moves(rt.alloc(), o)?;
     let mut left = Memory::new(rt.alloc())?;
     let mut right = Memory::new(rt.alloc())?;
-    let picture = vec![in rt.alloc(); 0u8; PICTURE]?;
+    let picture = vec![in rt.alloc(); 0u8; LENGTH]?;
     let both = match play_moves(
         rt.alloc(),
         o.window,

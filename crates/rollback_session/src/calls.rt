@@ -21,6 +21,7 @@ use crate::refused::Refused;
 use crate::status::Status;
 use court_game::entry::Held;
 use game::seat::Seat;
+use packet::MOST_LENGTH;
 use peer::Peer;
 use peer::outgoing::outgoing;
 use picture::LENGTH;
@@ -29,7 +30,7 @@ use rollback::events::{receive, tick};
 use rollback::shown::shown;
 
 // As many bytes as a packet has at most.
-pub const PACKET_LENGTH: usize = 130;
+pub const PACKET_LENGTH: usize = MOST_LENGTH;
 
 // Whether a session may begin, or why not: the window, the lent inputs, states or picture.
 pub fn check_lent(
