@@ -9,6 +9,7 @@ use Rattle.game.specs.declared.seat.Seat.{Seat}
 use Rattle.game.specs.declared.seat.Seat.TheVariants.{Left, Right}
 use Rattle.network.specs.Network.{Network, Turn, facing, peer_at, packets_to, with_peer, with_packet, written, handed, new_network, turn}
 use Rattle.network.specs.Network as network
+use Rattle.network.proofs.Arrivals.{peer_there, packets_there}
 use Rattle.network.proofs.Networks.{none_refused}
 use Rattle.network.proofs.OnePeer.{sends_is}
 use Rattle.network.proofs.Rows.{handed_there, handed_past}
@@ -31,19 +32,11 @@ use Rattle.exchange.specs.Moves.{court_network, court_turn, sends_at, acted, Pee
 
 -- ---- networks by seats
 
-pub peer_there : (n : Network) (seat : Seat) (log : Log) → peer_at (with_peer n seat log) seat ≡ log
-peer_there n Left log = refl
-peer_there n Right log = refl
-
 pub packets_beside : (n : Network) (seat at : Seat) (log : Log) → packets_to (with_peer n seat log) at ≡ packets_to n at
 packets_beside n Left Left log = refl
 packets_beside n Left Right log = refl
 packets_beside n Right Left log = refl
 packets_beside n Right Right log = refl
-
-pub packets_there : (n : Network) (seat : Seat) (m : Message) → packets_to (with_packet n seat m) seat ≡ packets_to n seat ++ m ∷ []
-packets_there n Left m = refl
-packets_there n Right m = refl
 
 pub peer_beside : (n : Network) (seat at : Seat) (m : Message) → peer_at (with_packet n seat m) at ≡ peer_at n at
 peer_beside n Left Left m = refl

@@ -38,7 +38,7 @@ pub struct Both {
 }
 
 // Why a row of moves is not played.
-#[derive(Clone, Copy)]
+#[derive(Clone, Copy, PartialEq, Eq, Debug)]
 pub enum Unplayed {
     // A session does not begin.
     Refused(Refused),

@@ -16,11 +16,11 @@ use Rattle.network.proofs.Halves.{Half, written_length, joined_least}
 use Rattle.network.proofs.Networks.{Inv, across, all_taken, inv_turn, inv_turns, inv_network}
 use Rattle.network.proofs.Rows.{turns_append, handed_there, later_turns, grown}
 
-peer_there : (n : Network) (seat : Seat) (log : Log) → peer_at (with_peer n seat log) seat ≡ log
+pub peer_there : (n : Network) (seat : Seat) (log : Log) → peer_at (with_peer n seat log) seat ≡ log
 peer_there n Left log = refl
 peer_there n Right log = refl
 
-packets_there : (n : Network) (seat : Seat) (m : Message) → packets_to (with_packet n seat m) seat ≡ packets_to n seat ++ m ∷ []
+pub packets_there : (n : Network) (seat : Seat) (m : Message) → packets_to (with_packet n seat m) seat ≡ packets_to n seat ++ m ∷ []
 packets_there n Left m = refl
 packets_there n Right m = refl
 
