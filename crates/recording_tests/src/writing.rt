@@ -18,6 +18,7 @@ const AFTER_600: [u8; 64] = [
 // Seat 0 goes through all inputs one by one, seat 1 seven frames each.
 pub fn fill(rt: &impl Abort, inputs: &mut [u8]) {
     assert!(rt; inputs.len() >= 2_000_000);
+    // By places: over chunks of both halves the check left the bounds of the second open.
     for k in 0..700usize {
         inputs[k] = (k % 16) as u8;
         inputs[1_000_000 + k] = (k / 7 % 16) as u8;
