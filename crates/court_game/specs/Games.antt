@@ -1,6 +1,6 @@
 -- The court as a game, what is promised of it, and games as they come out. Assumes nothing: these are definitions,
 -- and statements that are proved in proofs/.
-use Rattle.std.specs.Prelude.{◌≡◌, ℕ, true, List, [], ◌∷◌, ◌++◌, replicate, pos, neg_ℤ, nat_le}
+use Rattle.std.specs.Prelude.{◌≡◌, ℕ, Bool, true, List, [], ◌∷◌, ◌++◌, replicate, pos, neg_ℤ, nat_le}
 use Rattle.std.specs.List.{AllByRecursion}
 use Rattle.court.specs.declared.state.Ball.{Ball}
 use Rattle.court.specs.declared.state.Paddle.{Paddle}
@@ -13,8 +13,11 @@ abbrev pub court_game : Game State
 court_game = record { start = start; frame = advanced }
 
 -- an input has four bits
+abbrev pub is_input : ℕ → Bool
+is_input a = nat_le a 15
+
 abbrev pub court_rules : Rules State
-court_rules = record { game = court_game; fits = λ a. nat_le a 15 }
+court_rules = record { game = court_game; fits = is_input }
 
 -- ball and paddles stay in the court, whatever the inputs
 abbrev pub StaysIn : Type 0

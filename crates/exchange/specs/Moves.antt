@@ -1,5 +1,6 @@
 -- Two sessions and the packets between them, as a network. Assumes nothing: these are definitions.
 use Rattle.std.specs.Prelude.{◌≡◌, ℕ, cond, List, [], ◌∷◌, map, vec_items, Vec, nat_le}
+use Rattle.court_game.specs.Games.{is_input}
 use Rattle.std.specs.Global.{Global}
 use Rattle.court_game.specs.Saved.{court_saved}
 use Rattle.game.specs.declared.seat.Seat.{Seat}
@@ -14,11 +15,11 @@ use Rattle.exchange.specs.declared.machine.Machine.{Machine}
 
 -- a network of the court's game: what a row of turns makes of the new one
 abbrev pub court_network : ℕ → List Turn → Network
-court_network window ts = network (λ a. nat_le a 15) window ts
+court_network window ts = network is_input window ts
 
 -- a turn at such a network
 abbrev pub court_turn : ℕ → Network → Turn → Network
-court_turn window n t = turn (λ a. nat_le a 15) window n t
+court_turn window n t = turn is_input window n t
 
 -- the peer at a seat writes the packet that it sends
 abbrev pub sends_at : ℕ → Network → Seat → Network

@@ -1,5 +1,6 @@
 // A row of moves at two machines, from the beginning.
 ghost use Rattle.std.specs.Prelude.{◌≡◌, ℕ, ◌≤◌, ◌⊎◌, List, length, Err, IfOk, nat_le};
+ghost use Rattle.court_game.specs.Games.{is_input};
 ghost use Rattle.peer.specs.Said.{begin_checked};
 ghost use Rattle.rollback_session.specs.Refusals.{said_begun};
 ghost use Rattle.rollback_session.specs.declared.refused.Refused.{Refused as Faults};
@@ -81,7 +82,7 @@ pub fn play_moves(
     ensures left { IfOk result (λ b. PeerAt window (after_moves window row.now) Left (memory b.left.peer left_inputs.new left_states.new)) }
     ensures right { IfOk result (λ b. PeerAt window (after_moves window row.now) Right (memory b.right.peer right_inputs.new right_states.new)) }
     ensures agree { IfOk result (λ b. Agree window (log_of b.left.peer left_inputs.new) (log_of b.right.peer right_inputs.new)) }
-    ensures sure { IfOk result (λ b. (m : ℕ) (ts : List Turn) → after_moves window row.now ≡ court_network window ts → ((seat : At) → Came (λ a. nat_le a 15) window m ts seat) → (m ≤ confirmed (log_of b.left.peer left_inputs.new)) × (m ≤ confirmed (log_of b.right.peer right_inputs.new))) }
+    ensures sure { IfOk result (λ b. (m : ℕ) (ts : List Turn) → after_moves window row.now ≡ court_network window ts → ((seat : At) → Came is_input window m ts seat) → (m ≤ confirmed (log_of b.left.peer left_inputs.new)) × (m ≤ confirmed (log_of b.right.peer right_inputs.new))) }
 {
     let peer = begin(Seat::Left, window, left_inputs, left_states, picture)?;
     // No function makes a machine: a Result of one is not covered, and after any other call the memory that the loop leaves is not known.

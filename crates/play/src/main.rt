@@ -11,6 +11,7 @@
 use anyhow::{Context, anyhow};
 use game::seat::Seat;
 use peer::Peer;
+use peer::memory::{INPUTS, MOST_STATES};
 use picture::{LENGTH, text_of};
 use rollback::Outcome;
 use rollback_session::calls::{PACKET_LENGTH, begin, check_lent, draw, happen, status};
@@ -21,11 +22,6 @@ use std::process::ExitCode;
 use std::{env, fs, io};
 
 const USAGE: &str = "usage: play SEAT N FILE [show] [letters OUT]";
-
-// Lent memory: both peers' inputs, and 64 bytes for each state of the largest window and one more.
-const INPUTS: usize = 2_000_000;
-
-const STATES: usize = 61 * 64;
 
 // What the command line asks for.
 #[derive(Drop)]
@@ -78,7 +74,7 @@ impl Memory {
     fn new(alloc: Global) -> Result<Memory, AllocError> {
         Ok(Memory {
             inputs: vec![in alloc; 0u8; INPUTS]?,
-            states: vec![in alloc; 0u8; STATES]?,
+            states: vec![in alloc; 0u8; MOST_STATES]?,
             picture: vec![in alloc; 0u8; LENGTH]?,
         })
     }

@@ -14,6 +14,7 @@ use court_game::snapshot::save_state;
 use game::saved::STATE_BYTES;
 use peer::Peer;
 use peer::log::HALF;
+use peer::memory::INPUTS;
 
 // The fields before the frames.
 fn put_head(out: &mut [u8], window: u8, count: u32)
@@ -77,7 +78,7 @@ pub fn write(p: &Peer, inputs: &[u8], out: &mut [u8]) -> Result<usize, Unwritten
     ensures answer { result ≡ writing (length inputs.now) (confirmed (log_of p.now inputs.now)) (length out.old) }
     ensures bytes { out.new ≡ written_over (length inputs.now) (match_of p.now.seat p.now.window (log_of p.now inputs.now)) out.old }
 {
-    if inputs.len() < 2 * HALF {
+    if inputs.len() < INPUTS {
         return Err(Unwritten::Inputs);
     }
     let count = p.confirmed();

@@ -1,5 +1,6 @@
 -- A session of the court's game over a row of events. Assumes nothing: these are definitions.
-use Rattle.std.specs.Prelude.{ℕ, List, nat_le}
+use Rattle.std.specs.Prelude.{ℕ, List}
+use Rattle.court_game.specs.Games.{is_input}
 use Rattle.court_game.specs.Saved.{court_saved}
 use Rattle.game.specs.declared.seat.Seat.{Seat}
 use Rattle.peer.specs.declared.numbers.Peer.{Peer}
@@ -8,7 +9,7 @@ use Rattle.rollback.specs.Rows.{Memory, StandsFor}
 
 -- the log of a peer to which a row of events happened, from its beginning
 abbrev pub log_after : ℕ → List Event → Log
-log_after window es = run (λ a. nat_le a 15) window new_log es
+log_after window es = run is_input window new_log es
 
 abbrev pub memory : Peer → List ℕ → List ℕ → Memory
 memory p inputs states = record { peer = p; inputs = inputs; states = states }

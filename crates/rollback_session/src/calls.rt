@@ -1,6 +1,6 @@
 // One call for each event, and what the peer then shows and sends, of the court's game. Memory is lent at each call.
 ghost use Rattle.std.specs.Prelude.{◌≡◌, ℕ, ◌+◌, ◌*◌, ◌<◌, ◌≤◌, true, List, [], ◌∷◌, ◌++◌, length, drop, is_ok, is_err, IfOk, MatchResult, ◌≢◌, nat_le};
-ghost use Rattle.court_game.specs.Games.{court_game};
+ghost use Rattle.court_game.specs.Games.{court_game, is_input};
 ghost use Rattle.court_game.specs.Saved.{court_saved};
 ghost use Rattle.game.specs.declared.seat.Seat.{Seat as At};
 ghost use Rattle.packet.specs.Wire.{message_length};
@@ -67,7 +67,7 @@ pub fn begin(
 
 // Carries an event out.
 fn carry_out(p: &mut Peer, inputs: &mut [u8], states: &mut [u8], event: Happening) -> Outcome
-    ensures answer { result ≡ said (λ a. nat_le a 15) p.old.window (length inputs.old) (length states.old) (log_of p.old inputs.old) (event_of event.entry) }
+    ensures answer { result ≡ said is_input p.old.window (length inputs.old) (length states.old) (log_of p.old inputs.old) (event_of event.entry) }
     ensures happens { Happened court_saved p.old inputs.old states.old (event_of event.entry) p.new inputs.new states.new }
     ensures idle { ((n : ℕ) → result ≢ Taken n) → (p.new ≡ p.old) × (inputs.new ≡ inputs.old) × (states.new ≡ states.old) }
     ensures few { (n : ℕ) → result ≡ Taken n → n ≤ p.old.window }
@@ -105,7 +105,7 @@ pub fn happen(
     event: Happening,
     out: &mut [u8; PACKET_LENGTH],
 ) -> Answer
-    ensures answer { result.outcome ≡ said (λ a. nat_le a 15) p.old.window (length inputs.old) (length states.old) (log_of p.old inputs.old) (event_of event.entry) }
+    ensures answer { result.outcome ≡ said is_input p.old.window (length inputs.old) (length states.old) (log_of p.old inputs.old) (event_of event.entry) }
     ensures happens { Happened court_saved p.old inputs.old states.old (event_of event.entry) p.new inputs.new states.new }
     ensures row { (seat : At) (window : ℕ) (es : List Event) → After seat window es (memory p.old inputs.old states.old) → After seat window (es ++ event_of event.entry ∷ []) (memory p.new inputs.new states.new) }
     ensures idle { ((n : ℕ) → result.outcome ≢ Taken n) → (p.new ≡ p.old) × (inputs.new ≡ inputs.old) × (states.new ≡ states.old) }

@@ -1,6 +1,6 @@
 // One call for each event, and what the peer then shows and sends, of the court's game.
 ghost use Rattle.std.specs.Prelude.{◌≡◌, ◌++◌, length, drop, IfOk, if◌then◌else◌, ◌≢◌, nat_le, nat_lt};
-ghost use Rattle.court_game.specs.Games.{court_game};
+ghost use Rattle.court_game.specs.Games.{court_game, is_input};
 ghost use Rattle.peer.specs.Lent.{Begun, Happened, log_of};
 ghost use Rattle.peer.specs.Said.{begin_checked};
 ghost use Rattle.peer.specs.Peers.{shows};
@@ -39,8 +39,8 @@ pub fn begin(
 
 // One event.
 pub fn happen(p: &mut Peer, inputs: &mut [u8], event: Happening) -> Outcome
-    ensures answer { result ≡ said (λ a. nat_le a 15) p.old.window (length inputs.old) (log_of p.old inputs.old) (event_of event.entry) }
-    ensures happens { Happened (λ a. nat_le a 15) p.old inputs.old (event_of event.entry) p.new inputs.new }
+    ensures answer { result ≡ said is_input p.old.window (length inputs.old) (log_of p.old inputs.old) (event_of event.entry) }
+    ensures happens { Happened is_input p.old inputs.old (event_of event.entry) p.new inputs.new }
     ensures idle { (result ≢ Taken) → (p.new ≡ p.old) × (inputs.new ≡ inputs.old) }
 {
     match event {

@@ -1,6 +1,6 @@
 // A whole session: a row of events from the beginning, and the picture at its end.
 ghost use Rattle.std.specs.Prelude.{◌≡◌, true, nat_le, ◌++◌, map, length, drop, is_err, IfOk, OnOk};
-ghost use Rattle.court_game.specs.Games.{court_game};
+ghost use Rattle.court_game.specs.Games.{court_game, is_input};
 ghost use Rattle.peer.specs.Peers.{new_log, run, shows};
 ghost use Rattle.peer.specs.Lent.{log_of, Long};
 ghost use Rattle.peer.specs.Rows.{StandsFor};
@@ -17,7 +17,7 @@ use rollback_session::{Happening, Refused};
 // A row of events, right and wrong.
 fn happen_all(p: &mut Peer, inputs: &mut [u8], events: &[Happening])
     requires { Long inputs.old }
-    ensures { StandsFor p.old.seat p.old.window (run (λ a. nat_le a 15) p.old.window (log_of p.old inputs.old) (map event_of events.now)) (record { peer = p.new; inputs = inputs.new }) }
+    ensures { StandsFor p.old.seat p.old.window (run is_input p.old.window (log_of p.old inputs.old) (map event_of events.now)) (record { peer = p.new; inputs = inputs.new }) }
 {
     for event in events {
         let _ = happen(p, inputs, *event);
@@ -36,8 +36,8 @@ pub fn play_session(
 ) -> Result<Peer, Refused>
     ensures answer { as_begun result ≡ said_begun (begin_checked window (length inputs.old) (length states.now)) (length picture.old) }
     ensures idle { is_err result ≡ true → (inputs.new ≡ inputs.old) × (picture.new ≡ picture.old) }
-    ensures stands { IfOk result (λ p. StandsFor seat window (run (λ a. nat_le a 15) window new_log (map event_of events.now)) (record { peer = p; inputs = inputs.new })) }
-    ensures shown { OnOk result (picture.new ≡ picture_of (shows court_game seat (run (λ a. nat_le a 15) window new_log (map event_of events.now))) ++ drop 19200 picture.old) }
+    ensures stands { IfOk result (λ p. StandsFor seat window (run is_input window new_log (map event_of events.now)) (record { peer = p; inputs = inputs.new })) }
+    ensures shown { OnOk result (picture.new ≡ picture_of (shows court_game seat (run is_input window new_log (map event_of events.now))) ++ drop 19200 picture.old) }
 {
     let mut p = begin(seat, window, inputs, states, picture)?;
     happen_all(&mut p, inputs, events);
