@@ -97,8 +97,9 @@ impl Radio {
         }
     }
 
-    // What the radio does with a packet: it is lost, or comes once or twice, each time after a delay of its own.
-    fn send(&mut self, good: bool, flight: Flight) -> Result<(), AllocError> {
+    // What the radio does with a packet that is sent when it is due: it is lost, or comes once or twice, each time after a delay of its own.
+    fn send(&mut self, flight: Flight) -> Result<(), AllocError> {
+        let good = flight.due >= self.options.ticks;
         let lost = self.random.below(256) < self.options.loss;
         let twice = self.random.below(256) < self.options.twice;
         let most = self.options.delay.saturating_sub(1);
@@ -140,7 +141,7 @@ impl Radio {
             seat: seat.facing(),
             number: usize::try_from(tick)?,
         };
-        self.send(tick >= self.options.ticks, flight)?;
+        self.send(flight)?;
         Ok(input)
     }
 }
@@ -176,11 +177,11 @@ impl Memory {
 // What a machine came to.
 fn print_side(rt: &HostRuntime, name: &str, side: Played, states: &[u8]) -> anyhow::Result<()> {
     match status(&side.peer, states) {
-        Ok(s) => {
+        Ok(shown) => {
             let tally = side.tally;
             print!(rt;
                 "{name} beat {} sure {} points {} {} ",
-                s.frames, s.confirmed, s.score.left, s.score.right
+                shown.frames, shown.confirmed, shown.score.left, shown.score.right
             )?;
             println!(rt;
                 "lost {} refused {} played {} again {}",
@@ -193,43 +194,53 @@ fn print_side(rt: &HostRuntime, name: &str, side: Played, states: &[u8]) -> anyh
 }
 
 // The inputs of seat 0 and of seat 1 in the first frames, as a machine has them; none where they do not lie there.
-fn inputs_at(seat: Seat, inputs: &[u8], frames: usize) -> (&[u8], &[u8]) {
-    let own = inputs.get(..frames).unwrap_or(&[]);
-    let other = inputs.get(HALF..HALF.saturating_add(frames)).unwrap_or(&[]);
-    seat.in_order(own, other)
+fn inputs_at(seat: Seat, inputs: &[u8], frames: usize) -> Option<(&[u8], &[u8])> {
+    let own = inputs.get(..frames)?;
+    let other = inputs.get(HALF..HALF.saturating_add(frames))?;
+    Some(seat.in_order(own, other))
 }
 
 // The first frame in which two rows of inputs differ.
-fn difference(xs: &[u8], ys: &[u8]) -> Option<usize> {
-    xs.iter().zip(ys).position(|(x, y)| x != y)
+fn difference(one: &[u8], other: &[u8]) -> Option<usize> {
+    one.iter().zip(other).position(|(x, y)| x != y)
 }
 
-// Whether both machines have the same inputs and come to the same state, in the frames that are confirmed at both.
-fn print_agreement(rt: &HostRuntime, both: Both, left: &[u8], right: &[u8]) -> anyhow::Result<()> {
-    let sure = both.left.peer.confirmed().min(both.right.peer.confirmed());
-    let (a, b) = inputs_at(Seat::Left, left, sure);
-    let (c, d) = inputs_at(Seat::Right, right, sure);
-    let whole = a.len() == sure && c.len() == sure;
-    match difference(a, c).or(difference(b, d)) {
-        None if whole && play(a, b).state == play(c, d).state => println!(rt; "same {sure}")?,
-        None => println!(rt; "different at {sure}")?,
-        Some(frame) => println!(rt; "different at {frame}")?,
+// Both machines have the same inputs and come to the same state, in so many first frames; or else the frame at which they differ.
+fn compare(left: &[u8], right: &[u8], frames: usize) -> Result<(), usize> {
+    let at_left = inputs_at(Seat::Left, left, frames).ok_or(frames)?;
+    let at_right = inputs_at(Seat::Right, right, frames).ok_or(frames)?;
+    let differs = difference(at_left.0, at_right.0).or(difference(at_left.1, at_right.1));
+    if let Some(frame) = differs {
+        return Err(frame);
+    }
+    if play(at_left.0, at_left.1).state != play(at_right.0, at_right.1).state {
+        return Err(frames);
     }
     Ok(())
 }
 
-fn run_one(rt: &HostRuntime, o: Options) -> anyhow::Result<()> {
+// Whether both machines agree in the frames that are confirmed at both.
+fn print_agreement(rt: &HostRuntime, both: Both, left: &[u8], right: &[u8]) -> anyhow::Result<()> {
+    let sure = both.left.peer.confirmed().min(both.right.peer.confirmed());
+    match compare(left, right, sure) {
+        Ok(()) => println!(rt; "same {sure}")?,
+        Err(frame) => println!(rt; "different at {frame}")?,
+    }
+    Ok(())
+}
+
+fn run_one(rt: &HostRuntime, options: Options) -> anyhow::Result<()> {
     println!(rt;
         "seed {} window {} ticks {} loss {} twice {} delay {}",
-        o.seed, o.window, o.ticks, o.loss, o.twice, o.delay
+        options.seed, options.window, options.ticks, options.loss, options.twice, options.delay
     )?;
-    let moves = make_moves(rt.alloc(), o)?;
+    let moves = make_moves(rt.alloc(), options)?;
     let mut left = Memory::new(rt.alloc())?;
     let mut right = Memory::new(rt.alloc())?;
     let picture = vec![in rt.alloc(); 0u8; LENGTH]?;
     let both = match play_moves(
         rt.alloc(),
-        o.window,
+        options.window,
         left.inputs.as_mut_slice(),
         left.states.as_mut_slice(),
         right.inputs.as_mut_slice(),
