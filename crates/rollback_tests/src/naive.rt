@@ -21,9 +21,10 @@ pub struct Naive {
     pub acked: usize,
 }
 
-// The input that is taken for a frame: what came, else the last that came, or 0.
+// The input that is taken for a frame: the last of those that came for it and for the frames before it, or 0.
 pub(crate) fn taken_for(other: &[u8], frame: usize) -> u8 {
-    other.get(frame).or(other.last()).copied().unwrap_or(0)
+    let came = other.get(..frame.saturating_add(1)).unwrap_or(other);
+    came.last().copied().unwrap_or(0)
 }
 
 // What a packet says.
