@@ -41,6 +41,6 @@ pub fn play_session(
 {
     let mut p = begin(seat, window, inputs, states, picture)?;
     happen_all(&mut p, inputs, events);
-    let _ = draw(&p, inputs, picture);
+    draw(&p, inputs, picture).unwrap();
     Ok(p)
 }
