@@ -1,9 +1,6 @@
-use Rattle.std.proofs.Common.{sym, refl, ◌∙◌, arith}
+use Rattle.std.proofs.Common.{sym, ◌∙◌, arith}
 use Rattle.game.proofs.Plays.{frames_more, frames_done}
 use Rattle.game.proofs.plain.play_frames.Goals as goal
-
-pub loop-frame-init : goal.loop-frame-init
-loop-frame-init g c = refl
 
 pub loop-frame-preserved : goal.loop-frame-preserved
 loop-frame-preserved g c =

@@ -6,9 +6,6 @@ use Rattle.std.proofs.lemmas.Slice.Zip.{either_empty_from_Zip}
 use Rattle.game.proofs.Plays.{plays_more, plays_done, plays_append}
 use Rattle.game.proofs.plain.play_on.Goals as goal
 
-pub loop-a-init : goal.loop-a-init
-loop-a-init g c = cc
-
 pub loop-a-preserved : goal.loop-a-preserved
 loop-a-preserved g c =
     let now = c.in-Some.ensures.steps in
