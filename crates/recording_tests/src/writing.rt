@@ -16,7 +16,7 @@ const AFTER_600: [u8; 64] = [
 ];
 
 // Seat 0 goes through all inputs one by one, seat 1 seven frames each.
-pub fn fill(rt: &impl Abort, inputs: &mut [u8]) {
+pub(crate) fn fill(rt: &impl Abort, inputs: &mut [u8]) {
     assert!(rt; inputs.len() >= 2_000_000);
     // By places: over chunks of both halves the check left the bounds of the second open.
     for k in 0..700usize {
@@ -26,7 +26,7 @@ pub fn fill(rt: &impl Abort, inputs: &mut [u8]) {
 }
 
 // A peer that has one frame more than the other's.
-pub fn ahead(seat: Seat, other: usize) -> Peer
+pub(crate) fn ahead(seat: Seat, other: usize) -> Peer
     requires { other < 1000000 }
 {
     Peer {
