@@ -30,20 +30,18 @@ pub(crate) fn move_ball(b: Ball) -> Ball
     ensures { result ≡ ball_moved b }
 {
     let y = b.y + b.dy;
-    let above = y < BALL_Y.least;
-    let below = y > BALL_Y.most;
     let moved = Ball {
         x: b.x + b.dx,
         y,
         ..b
     };
-    if above {
+    if y < BALL_Y.least {
         Ball {
             y: BALL_Y.least,
             dy: b.dy.abs(),
             ..moved
         }
-    } else if below {
+    } else if y > BALL_Y.most {
         Ball {
             y: BALL_Y.most,
             dy: -b.dy.abs(),

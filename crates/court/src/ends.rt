@@ -109,11 +109,10 @@ impl Rally {
     pub(crate) fn meet_ends(self) -> State
         ensures { result ≡ ends_met self.state }
     {
-        let past_left = self.state.ball.x < BALL_X.least;
-        let past_right = self.state.ball.x > BALL_X.most;
-        if past_left {
+        let x = self.state.ball.x;
+        if x < BALL_X.least {
             self.meet_end(Side::Left)
-        } else if past_right {
+        } else if x > BALL_X.most {
             self.meet_end(Side::Right)
         } else {
             self.state

@@ -50,8 +50,7 @@ impl Court {
             return self;
         }
         let moved = self.move_paddles(left, right);
-        let waits = moved.state.wait != 0;
-        if waits {
+        if moved.state.wait != 0 {
             Court {
                 state: State {
                     wait: moved.state.wait - 1,

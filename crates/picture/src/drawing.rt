@@ -37,8 +37,7 @@ pub fn draw(court: Court, picture: &mut [u8]) -> Result<(), Refused>
     ensures value { result ≡ (if nat_le 19200 (length picture.old) then Ok tt else Err Refused.TooShort) }
     ensures picture { picture.new ≡ (if nat_le 19200 (length picture.old) then picture_of court.state ++ drop 19200 picture.old else picture.old) }
 {
-    let short = picture.len() < LENGTH;
-    if short {
+    if picture.len() < LENGTH {
         return Err(Refused::TooShort);
     }
     let areas = areas_of(court);

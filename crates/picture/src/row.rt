@@ -25,8 +25,7 @@ fn paint_area(row: &mut [u8], j: usize, area: Area, byte: u8)
     requires { (area.columns.from ≤ area.columns.to) × (area.columns.to ≤ length row.old) }
     ensures { (i : ℕ) → slice_index row.new i ≡ (if in_run area.columns i && in_run area.rows j then byte else slice_index row.old i) }
 {
-    let crosses = area.rows.has(j);
-    if crosses {
+    if area.rows.has(j) {
         paint_run(row, area.columns, byte);
     }
 }
@@ -39,8 +38,7 @@ fn paint_ground(row: &mut [u8], j: usize)
     row.fill(0);
     row[WIDTH / 2 - 1] = LINE;
     row[WIDTH / 2] = LINE;
-    let beside_goal = !GOAL_ROWS.has(j);
-    if beside_goal {
+    if !GOAL_ROWS.has(j) {
         row[0] = LINE;
         row[WIDTH - 1] = LINE;
     }

@@ -54,8 +54,7 @@ pub(crate) fn paint_score(row: &mut [u8], j: usize, court: Court)
     ensures { (i : ℕ) → slice_index row.new i ≡ (if in_digit court.state.score.left 70 i j || in_digit court.state.score.right 87 i j then 4 else slice_index row.old i) }
 {
     let score = court.state.score;
-    let crosses = ROWS.has(j);
-    if crosses {
+    if ROWS.has(j) {
         let k = j - ROWS.from;
         paint_digit(row, LEFT, GLYPHS[usize::from(score.left)][k]);
         paint_digit(row, RIGHT, GLYPHS[usize::from(score.right)][k]);

@@ -24,8 +24,7 @@ fn push_dot(text: &mut String, k: usize, dot: u8) -> Result<(), AllocError>
     ensures { OnOk result (string_bytes text.new ≡ string_bytes text.old ++ dot_text k dot) }
 {
     text.push(character(dot))?;
-    let last = k % WIDTH == WIDTH - 1;
-    if last {
+    if k % WIDTH == WIDTH - 1 {
         text.push('\n')?;
     }
     Ok(())

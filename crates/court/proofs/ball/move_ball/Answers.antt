@@ -6,9 +6,9 @@ use Rattle.court.specs.declared.state.Ball.{Ball}
 use Rattle.court.proofs.Signs.{sub_neg}
 use Rattle.court.proofs.ball.move_ball.Goals as goal
 
-pub returns-then-above : goal.returns-then-above
+pub returns-then-y : goal.returns-then-y
 unfolding ball_moved
-returns-then-above c =
+returns-then-y c =
     let fx : SFits w32 c.args.b.x = search rules in
     let fy : SFits w32 c.args.b.y = search rules in
     let fdx : SFits w32 c.args.b.dx = search rules in
@@ -16,38 +16,38 @@ returns-then-above c =
     let fsx : SFits w32 (c.args.b.x +ℤ c.args.b.dx) = search rules in
     let fsy : SFits w32 (c.args.b.y +ℤ c.args.b.dy) = search rules in
     let fr : SFits w32 c.abs.result = search rules in
-    let t : lt_z (c.args.b.y +ℤ c.args.b.dy) (pos 512) ≡ true = simp to_z-of_z at c.if-above.true in
+    let t : lt_z (c.args.b.y +ℤ c.args.b.dy) (pos 512) ≡ true = simp to_z-of_z at c.if-y.true in
     let e : c.abs.result ≡ size c.args.b.dy = simp to_z-of_z at c.abs.ensures.value in
     let mk : ℤ → Ball = λ d. record { x = c.args.b.x +ℤ c.args.b.dx; y = pos 512; dx = c.args.b.dx; dy = d } in
     simp (to_z-of_z, t) (ap mk e)
 
-pub returns-then-below : goal.returns-then-below
+pub returns-then-y-2 : goal.returns-then-y-2
 unfolding ball_moved
-returns-then-below c =
+returns-then-y-2 c =
     let fx : SFits w32 c.args.b.x = search rules in
     let fy : SFits w32 c.args.b.y = search rules in
     let fdx : SFits w32 c.args.b.dx = search rules in
     let fdy : SFits w32 c.args.b.dy = search rules in
     let fsx : SFits w32 (c.args.b.x +ℤ c.args.b.dx) = search rules in
     let fsy : SFits w32 (c.args.b.y +ℤ c.args.b.dy) = search rules in
-    let fr : SFits w32 c.abs-then-below.result = search rules in
-    let fn : SFits w32 (pos 0 -ℤ c.abs-then-below.result) = search rules in
-    let t : lt_z (c.args.b.y +ℤ c.args.b.dy) (pos 512) ≡ false = simp to_z-of_z at c.if-above.false in
-    let u : lt_z (pos 30208) (c.args.b.y +ℤ c.args.b.dy) ≡ true = simp to_z-of_z at c.if-below.true in
-    let e : c.abs-then-below.result ≡ size c.args.b.dy = simp to_z-of_z at c.abs-then-below.ensures.value in
-    let n : pos 0 -ℤ c.abs-then-below.result ≡ neg_ℤ (size c.args.b.dy) = sub_neg c.abs-then-below.result ∙ ap neg_ℤ e in
+    let fr : SFits w32 c.abs-then-y-2.result = search rules in
+    let fn : SFits w32 (pos 0 -ℤ c.abs-then-y-2.result) = search rules in
+    let t : lt_z (c.args.b.y +ℤ c.args.b.dy) (pos 512) ≡ false = simp to_z-of_z at c.if-y.false in
+    let u : lt_z (pos 30208) (c.args.b.y +ℤ c.args.b.dy) ≡ true = simp to_z-of_z at c.if-y-2.true in
+    let e : c.abs-then-y-2.result ≡ size c.args.b.dy = simp to_z-of_z at c.abs-then-y-2.ensures.value in
+    let n : pos 0 -ℤ c.abs-then-y-2.result ≡ neg_ℤ (size c.args.b.dy) = sub_neg c.abs-then-y-2.result ∙ ap neg_ℤ e in
     let mk : ℤ → Ball = λ d. record { x = c.args.b.x +ℤ c.args.b.dx; y = pos 30208; dx = c.args.b.dx; dy = d } in
     simp (to_z-of_z, t, u) (ap mk n)
 
-pub returns-else-below : goal.returns-else-below
+pub returns-else-y-2 : goal.returns-else-y-2
 unfolding ball_moved
-returns-else-below c =
+returns-else-y-2 c =
     let fx : SFits w32 c.args.b.x = search rules in
     let fy : SFits w32 c.args.b.y = search rules in
     let fdx : SFits w32 c.args.b.dx = search rules in
     let fdy : SFits w32 c.args.b.dy = search rules in
     let fsx : SFits w32 (c.args.b.x +ℤ c.args.b.dx) = search rules in
     let fsy : SFits w32 (c.args.b.y +ℤ c.args.b.dy) = search rules in
-    let t : lt_z (c.args.b.y +ℤ c.args.b.dy) (pos 512) ≡ false = simp to_z-of_z at c.if-above.false in
-    let u : lt_z (pos 30208) (c.args.b.y +ℤ c.args.b.dy) ≡ false = simp to_z-of_z at c.if-below.false in
+    let t : lt_z (c.args.b.y +ℤ c.args.b.dy) (pos 512) ≡ false = simp to_z-of_z at c.if-y.false in
+    let u : lt_z (pos 30208) (c.args.b.y +ℤ c.args.b.dy) ≡ false = simp to_z-of_z at c.if-y-2.false in
     simp (to_z-of_z, t, u)

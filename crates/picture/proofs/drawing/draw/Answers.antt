@@ -18,7 +18,7 @@ loop-j-init c = ap (λ l. l ++ c.args.picture.now) (sym (rows_none c.args.court.
 pub returns-clause-picture : goal.returns-clause-picture
 unfolding picture_of
 returns-clause-picture c =
-    let n : 19200 ≤ length c.args.picture.now = omega (arith, c.if-short.false) in
+    let n : 19200 ≤ length c.args.picture.now = omega (arith, c.if-picture-lt-LENGTH.false) in
     let t : leb 19200 (length c.args.picture.now) ≡ true = le-leb 19200 (length c.args.picture.now) n in
     let e : c.loop-j.j ≡ 120 = omega arith in
     simp t (c.loop-j.invariant ∙ ap (λ (j : ℕ). rows_of c.args.court.state 0 j ++ drop (160 * j) c.args.picture.now) e)

@@ -4,7 +4,7 @@ use Rattle.court.specs.declared.state.State.{State}
 use Rattle.court.specs.Frame.{over, advanced, ball_played, waited, paddles_moved}
 use Rattle.court.proofs.Stays.{frame_rests}
 use Rattle.court.proofs.bounded.Court.frame.Goals as goal
-use Rattle.court.proofs.bounded.Court.frame.Goals.{then-waits, else-waits}
+use Rattle.court.proofs.bounded.Court.frame.Goals.{then-moved-ne0, else-moved-ne0}
 
 when_played : (s : State) (a b : ℕ) → over s ≡ false → s.wait ≡ 0 → ball_played (paddles_moved s a b) ≡ advanced s a b
 unfolding advanced
@@ -22,10 +22,10 @@ returns-clause-value c =
     let s = c.args.self.state in
     let m = c.move_paddles-moved.ensures in
     let o : over s ≡ false = sym c.if-is_over.ensures in
-    elim c.if-waits.branch [
-      | then-waits w ↦
-          ap (λ r. r.0) w.result-is ∙ ap waited m ∙ when_waited s _ _ o (λ z. w.if-waits.true (ap (λ (t : State). t.wait) m ∙ z))
-      | else-waits w ↦
+    elim c.if-moved-ne0.branch [
+      | then-moved-ne0 w ↦
+          ap (λ r. r.0) w.result-is ∙ ap waited m ∙ when_waited s _ _ o (λ z. w.if-moved-ne0.true (ap (λ (t : State). t.wait) m ∙ z))
+      | else-moved-ne0 w ↦
           ap (λ r. r.0) w.result-is ∙ w.play_ball.ensures ∙ ap ball_played m
-          ∙ when_played s _ _ o (sym (ap (λ (t : State). t.wait) m) ∙ w.if-waits.false)
+          ∙ when_played s _ _ o (sym (ap (λ (t : State). t.wait) m) ∙ w.if-moved-ne0.false)
     ]

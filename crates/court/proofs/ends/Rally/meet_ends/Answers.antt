@@ -4,19 +4,19 @@ use lib.Signed.{lt_z}
 use Rattle.court.specs.Frame.{ends_met}
 use Rattle.court.proofs.ends.Rally.meet_ends.Goals as goal
 
-pub returns-then-past_left : goal.returns-then-past_left
+pub returns-then-x : goal.returns-then-x
 unfolding ends_met
-returns-then-past_left c =
+returns-then-x c =
     let x = c.args.self.state.ball.x in
     let fx : SFits w32 x = search rules in
-    let t : lt_z x (pos 512) ≡ true = simp to_z-of_z at c.if-past_left.true in
+    let t : lt_z x (pos 512) ≡ true = simp to_z-of_z at c.if-x.true in
     simp t c.meet_end.ensures
 
-pub returns-then-past_right : goal.returns-then-past_right
+pub returns-then-x-2 : goal.returns-then-x-2
 unfolding ends_met
-returns-then-past_right c =
+returns-then-x-2 c =
     let x = c.args.self.state.ball.x in
     let fx : SFits w32 x = search rules in
-    let t : lt_z x (pos 512) ≡ false = simp to_z-of_z at c.if-past_left.false in
-    let u : lt_z (pos 40448) x ≡ true = simp to_z-of_z at c.if-past_right.true in
-    simp (t, u) c.meet_end-then-past_right.ensures
+    let t : lt_z x (pos 512) ≡ false = simp to_z-of_z at c.if-x.false in
+    let u : lt_z (pos 40448) x ≡ true = simp to_z-of_z at c.if-x-2.true in
+    simp (t, u) c.meet_end-then-x-2.ensures
