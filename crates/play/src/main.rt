@@ -14,9 +14,9 @@ use peer::Peer;
 use peer::memory::{INPUTS, MOST_STATES};
 use picture::{LENGTH, text_of};
 use rollback::Outcome;
+use rollback_session::Refused;
 use rollback_session::calls::{PACKET_LENGTH, begin, check_lent, draw, happen, status};
 use rollback_session::file::{Events, arrival_head, check_events};
-use rollback_session::{Refused, Status};
 use std::alloc::{AllocError, Global};
 use std::process::ExitCode;
 use std::{env, fs, io};
@@ -97,17 +97,7 @@ fn print_outcome(
     outcome: Outcome,
 ) -> anyhow::Result<()> {
     match outcome {
-        Outcome::Taken(_) => {
-            let Status {
-                frames,
-                confirmed,
-                score,
-            } = status(p, states)?;
-            println!(rt;
-                "beat {frames} sure {confirmed} points {} {}",
-                score.left, score.right
-            )?;
-        }
+        Outcome::Taken(_) => println!(rt; "{}", status(p, states)?)?,
         Outcome::Lost => println!(rt; "lost")?,
         Outcome::Refused(refusal) => println!(rt; "{}", Refused::from(refusal))?,
     }

@@ -173,3 +173,16 @@ fn short_memory(rt: HostRuntime) -> Result<(), Fail> {
     assert_eq!(rt; status(&p, states.as_slice()), Err(Refused::Peer(few)));
     Ok(())
 }
+
+// What people read of where a peer stands.
+#[test]
+fn status_as_text(rt: HostRuntime) -> Result<(), Fail> {
+    let status = Status {
+        frames: 1_234,
+        confirmed: 1_180,
+        score: Score { left: 3, right: 9 },
+    };
+    let text = format!(in rt.alloc(); "{status}")?;
+    assert_eq!(rt; text.as_str(), "beat 1234 sure 1180 points 3 9");
+    Ok(())
+}
