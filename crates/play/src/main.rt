@@ -16,7 +16,8 @@ use picture::{LENGTH, text_of};
 use rollback::Outcome;
 use rollback_session::Refused;
 use rollback_session::calls::{PACKET_LENGTH, begin, check_lent, draw, happen, status};
-use rollback_session::file::{Events, arrival_head, check_events};
+use rollback_session::file::arrival_head;
+use rollback_session::row::Row;
 use std::alloc::{AllocError, Global};
 use std::process::ExitCode;
 use std::{env, fs, io};
@@ -46,8 +47,8 @@ fn options_of(mut words: env::Args) -> Option<Options> {
     words.next()?;
     let (seat, window, file) = (words.next()?, words.next()?, words.next()?);
     let mut options = Options {
-        seat: seat_of(seat.as_str())?,
-        window: window.as_str().parse().ok()?,
+        seat: seat_of(&seat)?,
+        window: window.parse().ok()?,
         file,
         show: false,
         letters: None,
@@ -62,7 +63,8 @@ fn options_of(mut words: env::Args) -> Option<Options> {
     Some(options)
 }
 
-// The memory that a session is lent.
+// The memory that a session is lent. `radio` has a struct much like it: a library of two or three `vec!`s, with its contract, edit
+// and test, would be longer than both.
 #[derive(Drop)]
 struct Memory {
     inputs: Vec<u8>,
@@ -79,13 +81,18 @@ impl Memory {
         })
     }
 
-    // A session for the events of a file: first what does not let it begin is refused, and then a file that is no row of events.
-    fn begin(&mut self, options: &Options, file: &[u8]) -> Result<Peer, Refused> {
-        let (inputs, picture) = (self.inputs.as_slice(), self.picture.as_slice());
-        let states = self.states.as_mut_slice();
-        check_lent(options.window, inputs, states, picture)?;
-        check_events(file)?;
-        begin(options.seat, options.window, inputs, states, picture)
+    // A session for a file of events: first what does not let it begin is refused, and then a file that is no row of events.
+    fn begin<'a>(&mut self, options: &Options, file: &'a [u8]) -> Result<(Peer, Row<'a>), Refused> {
+        check_lent(options.window, &self.inputs, &self.states, &self.picture)?;
+        let row = Row::of(file)?;
+        let p = begin(
+            options.seat,
+            options.window,
+            &self.inputs,
+            &mut self.states,
+            &self.picture,
+        )?;
+        Ok((p, row))
     }
 }
 
@@ -123,35 +130,30 @@ fn keep_packet(letters: &mut Vec<u8>, packet: &[u8]) -> anyhow::Result<()> {
     Ok(())
 }
 
-// All events of a file, each with its line. Hands back the packets that were sent.
+// All events of a row, each with its line. Hands back the packets that were sent.
 fn play(
     rt: &HostRuntime,
     p: &mut Peer,
     memory: &mut Memory,
-    file: &[u8],
+    row: Row,
     show: bool,
 ) -> anyhow::Result<Vec<u8>> {
     let mut packet = [0; PACKET_LENGTH];
     let mut letters = Vec::new(rt.alloc());
-    for event in Events::of(file) {
+    for event in row.events() {
         let answer = happen(
             p,
-            memory.inputs.as_mut_slice(),
-            memory.states.as_mut_slice(),
+            &mut memory.inputs,
+            &mut memory.states,
             event?,
             &mut packet,
         );
-        print_outcome(rt, p, memory.states.as_slice(), answer.outcome)?;
+        print_outcome(rt, p, &memory.states, answer.outcome)?;
         if show {
-            print_picture(
-                rt,
-                p,
-                memory.states.as_slice(),
-                memory.picture.as_mut_slice(),
-            )?;
+            print_picture(rt, p, &memory.states, &mut memory.picture)?;
         }
         if let Some(length) = answer.sent {
-            keep_packet(&mut letters, packet.get(0..length).unwrap_or(&[]))?;
+            keep_packet(&mut letters, &packet[..length])?;
         }
     }
     Ok(letters)
@@ -164,20 +166,18 @@ fn at_file(path: &str, error: io::Error) -> anyhow::Error {
 // Plays the session, or tells on standard output why it is refused.
 fn run(rt: &HostRuntime) -> anyhow::Result<ExitCode> {
     let options = options_of(env::args(rt)?).context(USAGE)?;
-    let path = options.file.as_str();
-    let file = fs::read(rt, path).map_err(|e| at_file(path, e))?;
+    let file = fs::read(rt, &options.file).map_err(|e| at_file(&options.file, e))?;
     let mut memory = Memory::new(rt.alloc())?;
-    let mut p = match memory.begin(&options, file.as_slice()) {
-        Ok(p) => p,
+    let (mut p, row) = match memory.begin(&options, &file) {
+        Ok(begun) => begun,
         Err(refused) => {
             println!(rt; "{refused}")?;
             return Ok(ExitCode::FAILURE);
         }
     };
-    let letters = play(rt, &mut p, &mut memory, file.as_slice(), options.show)?;
+    let letters = play(rt, &mut p, &mut memory, row, options.show)?;
     if let Some(out) = &options.letters {
-        let out = out.as_str();
-        fs::write(rt, out, letters.as_slice()).map_err(|e| at_file(out, e))?;
+        fs::write(rt, out, &letters).map_err(|e| at_file(out, e))?;
     }
     Ok(ExitCode::SUCCESS)
 }
