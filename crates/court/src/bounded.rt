@@ -3,7 +3,7 @@ ghost use Rattle.court.specs.Bounds.{InCourt};
 
 use crate::state::State;
 
-#[derive(Clone, Copy)]
+#[derive(Clone, Copy, PartialEq, Eq, Debug)]
 pub struct Court {
     pub state: State,
     ghost inside: { InCourt state },

@@ -93,17 +93,14 @@ fn scores_in_turn_until_nine(rt: HostRuntime) {
     );
     let over = play(&none, &none);
     assert_eq!(rt; over.state, served(-512, -256, 9, 8));
-    assert_eq!(rt; play_on(over, &[10u8; 100], &[5u8; 100]).state, over.state);
+    assert_eq!(rt; play_on(over, &[10u8; 100], &[5u8; 100]), over);
 }
 
 #[test]
 fn plays_as_far_as_both_go(rt: HostRuntime) {
     let none = [0u8; 90];
-    assert_eq!(rt;
-        play(&none, &none[0..61]).state,
-        play(&none[0..61], &none).state
-    );
-    assert_eq!(rt; play(&none, &none[0..0]).state, Court::new().state);
+    assert_eq!(rt; play(&none, &none[0..61]), play(&none[0..61], &none));
+    assert_eq!(rt; play(&none, &none[0..0]), Court::new());
 }
 
 // The same 40 frames of 6 against 9: at once, in two parts, and by bytes that hold both inputs.
@@ -111,9 +108,9 @@ fn plays_as_far_as_both_go(rt: HostRuntime) {
 fn goes_on_from_a_state(rt: HostRuntime) -> Result<(), Fail> {
     let whole = play(&[6u8; 40], &[9u8; 40]);
     let part = play(&[6u8; 13], &[9u8; 13]);
-    assert_ne!(rt; part.state, whole.state);
-    assert_eq!(rt; play_on(part, &[6u8; 27], &[9u8; 27]).state, whole.state);
-    assert_eq!(rt; play_frames(&[150u8; 40])?.state, whole.state);
+    assert_ne!(rt; part, whole);
+    assert_eq!(rt; play_on(part, &[6u8; 27], &[9u8; 27]), whole);
+    assert_eq!(rt; play_frames(&[150u8; 40])?, whole);
     Ok(())
 }
 
