@@ -1,5 +1,6 @@
 -- How a refusal to draw is told to others. Assumes nothing: these are definitions.
-use Rattle.std.specs.Prelude.{ℕ}
+use Rattle.std.specs.Prelude.{ℕ, List, ◌++◌, codes}
+use Rattle.std.specs.Fmt.{decimal}
 use Rattle.picture.specs.declared.drawing.Refused.{Refused}
 use Rattle.picture.specs.declared.drawing.Refused.TheVariants.{TooShort}
 
@@ -9,3 +10,7 @@ refusal_number TooShort = 5
 
 abbrev pub refusal_place : Refused → ℕ
 refusal_place TooShort = 3
+
+-- as people are told: "refused 5 at 3"
+abbrev pub refusal_text : Refused → List ℕ
+refusal_text f = codes "refused " ++ decimal (refusal_number f) ++ codes " at " ++ decimal (refusal_place f)

@@ -1,12 +1,14 @@
 // A picture drawn into lent memory, each row into a part of it that is lent on.
-ghost use Rattle.std.specs.Prelude.{◌≡◌, ◌++◌, length, drop, if◌then◌else◌, Ok, Err, nat_le};
+ghost use Rattle.std.specs.Prelude.{◌≡◌, ◌++◌, length, drop, if◌then◌else◌, Ok, Err, Some, nat_le};
 ghost use Rattle.picture.specs.Picture.{picture_of};
-ghost use Rattle.picture.specs.Refusals.{refusal_number, refusal_place};
+ghost use Rattle.picture.specs.Refusals.{refusal_number, refusal_place, refusal_text};
 
 use crate::areas::areas_of;
 use crate::row::draw_row;
 use crate::{HEIGHT, LENGTH, WIDTH};
 use court::Court;
+use std::error::Error;
+use std::fmt;
 
 // Why nothing was drawn.
 #[derive(Clone, Copy, PartialEq, Eq, Debug)]
@@ -31,6 +33,16 @@ impl Refused {
         }
     }
 }
+
+impl fmt::Display for Refused {
+    ghost output = { λ refused. Some (refusal_text refused) };
+
+    fn fmt<W: fmt::Write>(&self, f: &mut fmt::Formatter<W>) -> fmt::Result {
+        write!(f, "refused {} at {}", self.number(), self.place())
+    }
+}
+
+impl Error for Refused {}
 
 // Draws over whatever stood in the first 19,200 bytes, and leaves those after them. A shorter slice is refused and stays as it was.
 pub fn draw(court: Court, picture: &mut [u8]) -> Result<(), Refused>

@@ -43,7 +43,7 @@ fn show_in(rt: &HostRuntime, name: &str, court: Court, length: usize) -> anyhow:
     let mut bytes = vec![in rt.alloc(); BEFORE; length]?;
     print!(rt; "{name}:")?;
     if let Err(e) = draw(court, bytes.as_mut_slice()) {
-        print!(rt; " refused {} at {}", e.number(), e.place())?;
+        print!(rt; " {e}")?;
     }
     print_counts(rt, bytes.as_slice())
 }
