@@ -1,7 +1,6 @@
 -- What painters leave at a place of a row. Assumes nothing.
-use Rattle.std.proofs.Common.{◌≡◌, ℕ, zero, suc, ◌+◌, ◌-◌, ◌/◌, ◌%◌, ◌<◌, ◌≤◌, Bool, true, false, cond, ◌&&◌, ◌||◌, not, eqb, List, [], length, get_or, set, replicate, sym, refl, ap, ◌∙◌, arith}
+use Rattle.std.proofs.Common.{◌≡◌, ℕ, zero, suc, ◌+◌, ◌-◌, ◌/◌, ◌%◌, ◌<◌, Bool, true, false, cond, ◌&&◌, ◌||◌, not, eqb, List, [], length, get_or, set, replicate, sym, refl, ap, ◌∙◌, arith}
 use lib.Bits.{bit_and}
-use borrow.Rule.Slice.PartMut.{put_mid}
 use Rattle.std.proofs.lemmas.List.{places, get_or_past, get_or-replicate, get_or-set_same, length-replicate}
 use Rattle.std.proofs.lemmas.Bool.{cases_eq, cases_lt}
 use Rattle.std.proofs.lemmas.Bool.Decides.{nat_tests}
@@ -10,22 +9,12 @@ use Rattle.court.proofs.Bits.{mask_bit}
 use Rattle.picture.specs.Areas.{in_run, Covered}
 use Rattle.picture.specs.Picture.{glyphs, in_bits, in_digit, in_score, on_line, dot}
 use Rattle.picture.specs.declared.areas.Areas.{Areas}
-use Rattle.picture.specs.declared.areas.Run.{Run}
-
-pub run_painted : (xs ys : List ℕ) (r : Run) (v i : ℕ) → r.from ≤ r.to → r.to ≤ length xs → length ys ≡ r.to - r.from → ((k : ℕ) → k < r.to - r.from → get_or ys k 0 ≡ v) → get_or (put_mid r.from (r.to - r.from) xs ys) i 0 ≡ cond (in_run r i) v (get_or xs i 0)
-unfolding in_run
-run_painted xs ys r v i h k n e =
-    let at : (i - r.from) < r.to - r.from → get_or ys (i - r.from) 0 ≡ v = e (i - r.from) in grind (arith, places, nat_tests)
 
 pub set_is : (xs : List ℕ) (k v i : ℕ) → k < length xs → get_or (set xs k v) i 0 ≡ cond (eqb i k) v (get_or xs i 0)
 set_is xs k v i h = let s = get_or-set_same xs k v 0 h in let q = cases_eq i k in grind (arith, places, nat_tests)
 
 pub blank : (n i : ℕ) → ◌≡◌ {A = ℕ} (get_or (replicate n 0) i 0) 0
 blank n i = let q = cases_lt i n in grind (arith, get_or-replicate, get_or_past, length-replicate)
-
--- painted over what is known to have stood there
-pub over : (a : Bool) (v : ℕ) {x g h : ℕ} → x ≡ cond a v g → g ≡ h → x ≡ cond a v h
-over a v e k = e ∙ ap (cond a v) k
 
 -- ---- one test or another
 
@@ -44,6 +33,9 @@ ground_open i j h = grind (arith, nat_tests)
 pub ground_beside : (i j : ℕ) → false ≡ in_run (record { from = 40; to = 80 }) j → cond {A = ℕ} (eqb i 159) 1 (cond (eqb i 0) 1 (cond (eqb i 80) 1 (cond (eqb i 79) 1 0))) ≡ cond (on_line i j) 1 0
 unfolding in_run on_line
 ground_beside i j h = grind (arith, nat_tests)
+
+-- what a row without score, ball and paddles needs
+pub ruleset grounds = (set_is, blank, ground_open, ground_beside)
 
 -- ---- digits
 

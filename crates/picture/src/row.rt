@@ -13,6 +13,7 @@ use court::Court;
 // The rows in which the ends are open.
 const GOAL_ROWS: Run = Run { from: 40, to: 80 };
 
+#[tactic(auto, unfolding(crate::specs::Areas::in_run))]
 fn paint_run(row: &mut [u8], run: Run, byte: u8)
     requires { (run.from ≤ run.to) × (run.to ≤ length row.old) }
     ensures { (i : ℕ) → slice_index row.new i ≡ (if in_run run i then byte else slice_index row.old i) }
@@ -31,6 +32,7 @@ fn paint_area(row: &mut [u8], j: usize, area: Area, byte: u8)
 }
 
 // Nothing but the lines. Whatever stood in the row before is gone.
+#[tactic(auto, using(crate::proofs::Paints::grounds))]
 fn paint_ground(row: &mut [u8], j: usize)
     requires { length row.old ≡ 160 }
     ensures { (i : ℕ) → slice_index row.new i ≡ (if on_line i j then 1 else 0) }
@@ -45,6 +47,7 @@ fn paint_ground(row: &mut [u8], j: usize)
 }
 
 // Row j of the picture of a state. Whatever is painted later lies over what was painted before.
+#[tactic(auto, using(crate::proofs::Rows::row_from, crate::proofs::Paints::dot_is))]
 pub(crate) fn draw_row(row: &mut [u8], j: usize, court: Court, areas: Areas)
     requires { (length row.old ≡ 160) × (Covered court.state areas) }
     ensures { row.new ≡ row_of court.state j 0 160 }

@@ -48,7 +48,7 @@ fn paint_digit(row: &mut [u8], left: usize, bits: u8)
 }
 
 // Both digits, where row j crosses them.
-#[tactic(auto, unfolding(crate::specs::Areas::in_run))]
+#[tactic(auto, using(crate::proofs::Paints::digit_out), unfolding(crate::specs::Areas::in_run))]
 pub(crate) fn paint_score(row: &mut [u8], j: usize, court: Court)
     requires { length row.old ≡ 160 }
     ensures { (i : ℕ) → slice_index row.new i ≡ (if in_digit court.state.score.left 70 i j || in_digit court.state.score.right 87 i j then 4 else slice_index row.old i) }

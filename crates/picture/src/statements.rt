@@ -9,6 +9,7 @@ pub fn paddle_first()
 {}
 
 // A picture is its dots, row by row, and no more.
+#[tactic(auto, using(crate::proofs::Rows::rows_at, crate::proofs::Rows::length_rows), unfolding(crate::specs::Picture::picture_of))]
 pub fn dots_in_place()
     ensures dots { DotsInPlace }
     ensures whole { Whole }

@@ -1,6 +1,6 @@
 use Rattle.std.proofs.Common.{cond, get_or, ap, ◌∙◌}
 use Rattle.picture.specs.Picture.{glyphs, in_digit}
-use Rattle.picture.proofs.Paints.{digit_in, digit_out, either}
+use Rattle.picture.proofs.Paints.{digit_in, either}
 use Rattle.picture.proofs.score.paint_score.Goals as goal
 
 pub returns-then-has : goal.returns-then-has
@@ -13,9 +13,3 @@ returns-then-has c i =
     e2 ∙ ap (λ q. cond q 4 (get_or c.paint_digit.new.row i 0)) d2
     ∙ ap (cond (in_digit c.args.court.state.score.right 87 i c.args.j) 4) (e1 ∙ ap (λ q. cond q 4 (get_or c.args.row.now i 0)) d1)
     ∙ either (in_digit c.args.court.state.score.left 70 i c.args.j) (in_digit c.args.court.state.score.right 87 i c.args.j) 4 (get_or c.args.row.now i 0)
-
-pub returns-else-has : goal.returns-else-has
-returns-else-has c i =
-    let d1 = digit_out c.args.court.state.score.left 70 i c.args.j c.if-has.ensures in
-    let d2 = digit_out c.args.court.state.score.right 87 i c.args.j c.if-has.ensures in
-    simp (d1, d2)
