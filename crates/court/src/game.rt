@@ -8,6 +8,7 @@ use crate::state::{Ball, Paddle, Score, State};
 use crate::{LONGEST_WAIT, MIDDLE_X, MIDDLE_Y, SERVE_X, SERVE_Y};
 
 impl Court {
+    // Each Court carries what `inside` says, here and at `frame`; it is said too, so that a caller reads it without the type.
     #[tactic(auto, unfolding(crate::specs::Frame::start))]
     pub fn new() -> Court
         ensures value { result.state ≡ start }

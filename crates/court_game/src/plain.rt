@@ -11,7 +11,8 @@ use court::Court;
 // As many frames as a game has at most.
 pub const MOST_FRAMES: usize = 1_000_000;
 
-// All inputs of both seats from the start, as many frames as both have.
+// All inputs of both seats from the start, as many frames as both have. Each Court carries what `inside` says, here and below;
+// it is said too, so that a caller reads it without the type.
 pub fn play(left: &[u8], right: &[u8]) -> Court
     ensures value { result.state ≡ plays court_game start left.now right.now }
     ensures inside { InCourt result.state }

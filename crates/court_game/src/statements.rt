@@ -9,11 +9,13 @@ pub fn stays_in()
 {}
 
 // Once somebody has nine points nothing changes any more.
+#[tactic(auto, using(crate::proofs::Stays::rests))]
 pub fn rests_at_nine()
     ensures { RestsAtNine }
 {}
 
-// Playing on from a state of the court is playing from the beginning.
+// Playing on from a state of the court is playing from the beginning. Game's theorem at one type, so that the court's stand together.
+#[tactic(auto, using(game::proofs::Plays::from_saved))]
 pub fn from_saved()
     ensures { FromSaved State }
 {}
