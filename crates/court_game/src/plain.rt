@@ -8,8 +8,7 @@ ghost use Rattle.game.specs.Plain.{plays, seat_0, seat_1};
 use crate::entry::Held;
 use court::Court;
 
-// As many frames as a game has at most.
-pub const MOST_FRAMES: usize = 1_000_000;
+pub use game::plain::MOST_FRAMES;
 
 // All inputs of both seats from the start, as many frames as both have. Each Court carries what `inside` says, here and below;
 // it is said too, so that a caller reads it without the type.

@@ -18,7 +18,7 @@ use Rattle.rollback.specs.declared.outcome.Outcome.{Outcome}
 use Rattle.rollback.specs.declared.outcome.Outcome.TheVariants.{Taken, Lost, Refused}
 use Rattle.peer.specs.declared.outcome.Refusal.{Refusal}
 use Rattle.peer.specs.declared.outcome.Refusal.TheVariants.{Input}
-use Rattle.peer.specs.Lent.{log_of}
+use Rattle.peer.specs.Lent.{LongStates, log_of}
 use Rattle.peer.specs.Peers.{Log, tick, arrival, event, run, goes_on, sends}
 use Rattle.rollback.specs.Said.{said_tick, said_read, said_arrival}
 use Rattle.peer.proofs.Logs.{own_long}
@@ -146,7 +146,7 @@ packet_none window n seat a ps unfit at =
 -- whether one was written
 pub wrote : (seat : Seat) (window : ℕ) (log : Log) (m : Memory) (o : Outcome) (a : ℕ) → StandsFor court_saved seat window log m → o ≡ said (λ b. leb b 15) m.peer.window (length m.inputs) (length m.states) (log_of m.peer m.inputs) (tick a) → writes (tick a) o ≡ leb a 15
 wrote seat window log m o a s e =
-    let room : (m.peer.window + 1) * 64 ≤ length m.states = subst (λ w. (w + 1) * 64 ≤ length m.states) (sym s.window_is) s.roomy.states_long in
+    let room : LongStates m.peer.window m.states = subst (λ w. LongStates w m.states) (sym s.window_is) s.roomy.states_long in
     ap (writes (tick a)) e ∙ writes_fits m.peer.window _ _ (log_of m.peer m.inputs) a s.roomy.inputs_long room
 
 pub told_some : (b : Bool) (m : Message) (n : ℕ) → Some n ≡ sent b m → (b ≡ true) × (n ≡ message_length m)
@@ -213,7 +213,7 @@ none_refused_at window ts seat number ps d m f h at s e =
     let k : Message = get_or (packets_to n seat) number no_message in
     let read : reading (length (peer_at n seat).own) (message_bytes k) ≡ Ok k = All-get_or _ (packets_to n seat) number no_message there.0 (none_refused (λ b. leb b 15) window ts narrow seat) in
     let here : reading (length (log_of m.peer m.inputs).own) (vec_items (get_or ps number d)) ≡ Ok k = ap (λ l. reading (length l.own) (vec_items (get_or ps number d))) s.log_is ∙ ap (reading (length (peer_at n seat).own)) there.1 ∙ read in
-    let room : (m.peer.window + 1) * 64 ≤ length m.states = subst (λ w. (w + 1) * 64 ≤ length m.states) (sym s.window_is) s.roomy.states_long in
+    let room : LongStates m.peer.window m.states = subst (λ w. LongStates w m.states) (sym s.window_is) s.roomy.states_long in
     read_taken m.peer.window _ _ (log_of m.peer m.inputs) (vec_items (get_or ps number d)) k f s.roomy.inputs_long room here (sym e)
 
 -- a packet that comes leaves those that were written

@@ -4,6 +4,9 @@ ghost use Rattle.game.specs.Plain.{plays, seat_0, seat_1};
 
 use crate::rules::Game;
 
+// As many frames as a game has at most.
+pub const MOST_FRAMES: usize = 1_000_000;
+
 // On from a state, as many frames as both seats have inputs. A state that was come to by inputs from the start
 // goes on as if all inputs had been played from the start.
 pub fn play_on<G: Game>(from: G, left: &[u8], right: &[u8]) -> G

@@ -1,6 +1,7 @@
 -- A packet's bytes, and how bytes are read as a packet or refused. Assumes nothing: these are definitions,
 -- and statements that are proved in proofs/.
 use Rattle.std.specs.Prelude.{◌≡◌, ℕ, ◌+◌, ◌^◌, ◌<◌, ◌≤◌, true, cond, not, ◌⊎◌, List, ◌∷◌, ◌++◌, length, drop, is_err, Ok, Err, Result, MatchResult, ◌==◌, ◌≢◌, nat_lt, slice_index}
+use Rattle.std.specs.Result.{result_and}
 use Rattle.byte_numbers.specs.Little.{little, number_of, part}
 use Rattle.packet.specs.declared.fault.Fault.{Fault}
 use Rattle.packet.specs.declared.fault.Fault.TheVariants.{NoMark, CutShort, TooLong, TooMany, BadInput, PastEnd, Unmade}
@@ -87,13 +88,9 @@ rest_checked own xs =
     (cond (nat_lt (10 + count_in xs) (length xs)) (Err (TooLong (10 + count_in xs)))
     (Ok tt)))))
 
-abbrev pub and_then : {A B : Type 0} → Result A Fault → Result B Fault → Result B Fault
-and_then (Ok a) next = next
-and_then (Err f) next = Err f
-
 unfoldable pub reading : ℕ → List ℕ → Result Message Fault
 reading own xs =
-    and_then (start_checked xs) (and_then (rest_checked own xs) (Ok (record { first = first_in xs; inputs = inputs_in xs; ack = ack_in xs })))
+    result_and (start_checked xs) (result_and (rest_checked own xs) (Ok (record { first = first_in xs; inputs = inputs_in xs; ack = ack_in xs })))
 
 -- what the reader answered, as a message
 abbrev pub read_as : Result Packet Fault → Result Message Fault

@@ -1,6 +1,6 @@
 // A packet between two peers, in bytes: reader and writer, each the other's inverse.
 // A packet is read where it lies: its inputs are a part of the slice that it was read from.
-// Rests on byte_numbers.
+// Rests on byte_numbers and game.
 #![tactic(auto)]
 
 pub mod fault;
@@ -28,7 +28,5 @@ pub const MOST_INPUTS: u8 = 120;
 
 // As many bytes as a packet has at most. A constant's value calls no `from`.
 pub const MOST_LENGTH: usize = INPUTS_AT + MOST_INPUTS as usize;
-
-const MOST_FRAMES: u64 = 1_000_000;
 
 const LARGEST_INPUT: u8 = 15;

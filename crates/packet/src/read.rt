@@ -5,8 +5,9 @@ ghost use Rattle.packet.specs.Wire.{Proper, message_of, message_bytes, first_in,
 
 use crate::fault::Fault;
 use crate::message::Packet;
-use crate::{ACK_AT, COUNT_AT, FIRST_AT, INPUTS_AT, LARGEST_INPUT, MARK, MOST_FRAMES, MOST_INPUTS};
+use crate::{ACK_AT, COUNT_AT, FIRST_AT, INPUTS_AT, LARGEST_INPUT, MARK, MOST_INPUTS};
 use byte_numbers::LittleEndian;
+use game::plain::MOST_FRAMES;
 use std::cmp::Ordering;
 
 // Where the first byte stands that is no input.
@@ -24,20 +25,17 @@ fn read_start(packet: &[u8]) -> Result<(u32, u8), Fault>
     let Some(mark) = packet.first() else {
         return Err(Fault::CutShort(0));
     };
-    let marked = *mark == MARK;
-    if !marked {
+    if *mark != MARK {
         return Err(Fault::NoMark);
     }
     let Some(count) = packet.get(COUNT_AT) else {
         return Err(Fault::CutShort(packet.len()));
     };
     let first = u32::get(packet, FIRST_AT);
-    let past_end = u64::from(first) + u64::from(*count) > MOST_FRAMES;
-    if past_end {
+    if u64::from(first) + u64::from(*count) > MOST_FRAMES as u64 {
         return Err(Fault::PastEnd);
     }
-    let many = *count > MOST_INPUTS;
-    if many {
+    if *count > MOST_INPUTS {
         return Err(Fault::TooMany);
     }
     Ok((first, *count))
@@ -49,13 +47,11 @@ fn read_rest(packet: &[u8], own: u32, count: u8) -> Result<(u32, &[u8]), Fault>
     requires { count ≡ count_in packet.now }
     ensures { MatchResult result (λ r. (rest_checked own packet.now ≡ Ok tt) × (r.0 ≡ ack_in packet.now) × (r.1.now ≡ inputs_in packet.now)) (λ f. rest_checked own packet.now ≡ Err f) }
 {
-    let short = packet.len() < INPUTS_AT;
-    if short {
+    if packet.len() < INPUTS_AT {
         return Err(Fault::CutShort(packet.len()));
     }
     let ack = u32::get(packet, ACK_AT);
-    let unmade = ack > own;
-    if unmade {
+    if ack > own {
         return Err(Fault::Unmade);
     }
     let end = INPUTS_AT + usize::from(count);

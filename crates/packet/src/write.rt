@@ -32,8 +32,7 @@ impl Packet<'_> {
             _ => return Err(Unwritten::Overfull),
         };
         let end = INPUTS_AT + usize::from(count);
-        let short = out.len() < end;
-        if short {
+        if out.len() < end {
             return Err(Unwritten::NoRoom);
         }
         put_head(out, self.first, count, self.ack);

@@ -1,5 +1,5 @@
 -- Peers in lent memory. Assumes nothing: these are definitions.
-use Rattle.std.specs.Prelude.{◌≡◌, ℕ, zero, suc, ◌+◌, ◌-◌, ◌<◌, ◌≤◌, Bool, cond, List, [], ◌∷◌, ◌++◌, length, take, drop, nat_lt, slice_index}
+use Rattle.std.specs.Prelude.{◌≡◌, ℕ, zero, suc, ◌+◌, ◌-◌, ◌*◌, ◌<◌, ◌≤◌, Bool, cond, List, [], ◌∷◌, ◌++◌, length, take, drop, nat_lt, slice_index}
 use Rattle.game.specs.Plain.{Game}
 use Rattle.game.specs.declared.seat.Seat.{Seat}
 use Rattle.game.specs.declared.seat.Seat.TheVariants.{Left, Right}
@@ -14,9 +14,13 @@ log_of p inputs = record { own = take p.own inputs; other = take p.other (drop 1
 abbrev pub with_own : Log → ℕ → Log
 with_own log a = record { own = log.own ++ a ∷ []; other = log.other; acked = log.acked }
 
--- the memory is long enough
+-- the memory for the inputs is long enough
 abbrev pub Long : List ℕ → Type 0
 Long inputs = 2000000 ≤ length inputs
+
+-- and that for the states: one more than the window, 64 bytes each
+abbrev pub LongStates : ℕ → List ℕ → Type 0
+LongStates window states = (window + 1) * 64 ≤ length states
 
 -- no byte of the memory changes but those of inputs that are new
 abbrev pub Untouched : Peer → List ℕ → Peer → List ℕ → Type 0

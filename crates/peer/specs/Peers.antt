@@ -1,6 +1,7 @@
 -- What a peer is and does: it plays on without waiting for the other's inputs, and predicts those that have not come.
 -- Assumes nothing: these are definitions.
 use Rattle.std.specs.Prelude.{ℕ, zero, suc, ◌+◌, ◌-◌, min, max, Bool, cond, ◌&&◌, List, [], ◌∷◌, ◌++◌, length, take, drop, Ok, Err, Result, ◌==◌, nat_lt}
+use Rattle.std.specs.List.{common_prefix_len}
 use Rattle.game.specs.Plain.{Game, plays}
 use Rattle.game.specs.declared.seat.Seat.{Seat}
 use Rattle.game.specs.declared.seat.Seat.TheVariants.{Left, Right}
@@ -63,15 +64,9 @@ unfoldable pub shows : {S : Type 0} → Game S → Seat → Log → S
 shows g Left log = plays g g.start log.own (predicted log)
 shows g Right log = plays g g.start (predicted log) log.own
 
--- how far two rows are the same from the front
-abbrev pub alike : List ℕ → List ℕ → ℕ
-alike [] ys = 0
-alike (x ∷ xs) [] = 0
-alike (x ∷ xs) (y ∷ ys) = cond (x == y) (suc (alike xs ys)) 0
-
 -- how many frames have to be played where the log of what is shown changes: those from the first on whose inputs changed
 abbrev pub to_play : Log → Log → ℕ
-to_play before after = length after.own - alike (predicted before) (predicted after)
+to_play before after = length after.own - common_prefix_len ◌==◌ (predicted before) (predicted after)
 
 -- ---- what it is sure of
 

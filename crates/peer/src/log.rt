@@ -6,10 +6,11 @@ ghost use Rattle.peer.specs.Lent.{Long, Untouched, log_of, with_own, other_at};
 ghost use Rattle.peer.specs.Peers.{heard};
 
 use crate::numbers::Peer;
+use game::plain::MOST_FRAMES;
 use packet::Packet;
 
 // As many inputs as a seat has at most, and where the other's begin.
-pub const HALF: usize = 1_000_000;
+pub const HALF: usize = MOST_FRAMES;
 
 // The other's input at a frame, of which so many came: what came, else the last that came, or 0.
 pub fn other_input(inputs: &[u8], came: usize, frame: usize) -> u8

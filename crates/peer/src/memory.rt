@@ -1,7 +1,7 @@
 // Lent memory, as each call tests it: it is lent anew each time, so no type can keep that it is long enough.
 ghost use Rattle.std.specs.Prelude.{◌≡◌, ◌+◌, ◌*◌, ◌<◌, ◌≤◌, length, MatchResult};
 ghost use Rattle.peer.specs.declared.outcome.Refusal.TheVariants.{Inputs, States};
-ghost use Rattle.peer.specs.Lent.{Long};
+ghost use Rattle.peer.specs.Lent.{Long, LongStates};
 
 use crate::log::HALF;
 use crate::numbers::MOST_WINDOW;
@@ -27,7 +27,7 @@ pub fn check_inputs(inputs: &[u8]) -> Result<(), Refusal>
 // Whether one state more than the window has room.
 pub fn check_states(window: usize, states: &[u8]) -> Result<(), Refusal>
     requires { window ≤ 60 }
-    ensures { MatchResult result (λ _. (window + 1) * 64 ≤ length states.now) (λ f. (f ≡ States) × (length states.now < (window + 1) * 64)) }
+    ensures { MatchResult result (λ _. LongStates window states.now) (λ f. (f ≡ States) × (length states.now < (window + 1) * 64)) }
 {
     if states.len() < (window + 1) * STATE_BYTES {
         return Err(Refusal::States);

@@ -2,8 +2,8 @@
 ghost use Rattle.std.specs.Prelude.{◌≡◌, ◌+◌, ◌≤◌, min, ◌&&◌, Ok, Err, IfOk, MatchResult, nat_lt};
 ghost use Rattle.peer.specs.Windows.{window_checked};
 
-use crate::log::HALF;
 use crate::outcome::Refusal;
+use game::plain::MOST_FRAMES;
 use game::seat::Seat;
 
 pub(crate) const MOST_WINDOW: usize = 60;
@@ -55,7 +55,7 @@ impl Peer {
     pub fn may_play(&self) -> bool
         ensures { result ≡ (nat_lt self.now.own 1000000 && nat_lt self.now.own (self.now.other + self.now.window)) }
     {
-        self.own < HALF && self.own < self.other + self.window
+        self.own < MOST_FRAMES && self.own < self.other + self.window
     }
 
     // Of how many frames it has both inputs.

@@ -11,8 +11,8 @@ use byte_numbers::LittleEndian;
 use court::Court;
 use court_game::entry::Held;
 use court_game::snapshot::save_state;
+use game::plain::MOST_FRAMES;
 use game::saved::STATE_BYTES;
-use peer::log::HALF;
 use peer::numbers::check_window;
 use std::cmp::Ordering;
 
@@ -50,7 +50,7 @@ fn split_parts(bytes: &[u8]) -> Result<Recording<'_>, Fault>
     }
     // The check proves that the cast loses nothing: `try_from` would bring an error that cannot come.
     let count = u32::get(bytes, COUNT_AT) as usize;
-    if count > HALF {
+    if count > MOST_FRAMES {
         return Err(Fault::TooMany);
     }
     let (frames, states) = bytes[FRAMES_AT..].split_at_checked(count).ok_or(cut)?;

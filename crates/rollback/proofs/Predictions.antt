@@ -1,10 +1,11 @@
 -- Inputs of the other that came, and what was predicted before. Assumes nothing.
-use Rattle.std.proofs.Common.{◌≡◌, ℕ, zero, suc, ◌+◌, ◌-◌, ◌<◌, ◌≤◌, List, [], ◌∷◌, length, get_or, sym, ap, ◌∙◌, inl, inr, arith}
+use Rattle.std.proofs.Common.{◌≡◌, ℕ, zero, suc, ◌+◌, ◌-◌, ◌<◌, ◌≤◌, ◌==◌, List, [], ◌∷◌, length, get_or, sym, ap, ◌∙◌, inl, inr, arith}
 use Rattle.std.proofs.lemmas.Bool.{cases_lt, lt-ltb, le-ltb, eq-eqb, ne_eqb}
+use Rattle.std.specs.List.{common_prefix_len}
 use Rattle.game.specs.Plain.{Game}
 use Rattle.peer.specs.declared.numbers.Peer.{Peer}
 use Rattle.peer.specs.Lent.{Long, log_of, own_at, other_at, after}
-use Rattle.peer.specs.Peers.{predicted, alike, to_play}
+use Rattle.peer.specs.Peers.{predicted, to_play}
 use Rattle.peer.proofs.Logs.{own_long}
 use Rattle.peer.proofs.Shows.{state_same, predicted_long, predicted_at}
 
@@ -64,12 +65,12 @@ after_same g xs ys b b' k own other = state_same g _ _ _ _ k (λ i h. sym (own i
 
 -- ---- how many frames have to be played
 
-alike_is : (xs ys : List ℕ) (w : ℕ) → length xs ≡ length ys → w ≤ length xs → ((i : ℕ) → i < w → get_or xs i 0 ≡ get_or ys i 0) → (w < length xs → get_or xs w 0 ≡ get_or ys w 0 → ⊥) → alike xs ys ≡ w
-alike_is [] ys w e h same other = omega arith
-alike_is (x ∷ xs) [] w e h same other = let none : ⊥ = omega arith in absurd none
-alike_is (x ∷ xs) (y ∷ ys) zero e h same other = simp (ne_eqb x y (other (omega arith)))
-alike_is (x ∷ xs) (y ∷ ys) (suc w) e h same other =
-    simp (eq-eqb x y (same 0 (omega arith))) (ap suc (alike_is xs ys w (omega arith) (omega arith) (λ i k. same (suc i) (omega arith)) (λ k. other (omega arith))))
+common_is : (xs ys : List ℕ) (w : ℕ) → length xs ≡ length ys → w ≤ length xs → ((i : ℕ) → i < w → get_or xs i 0 ≡ get_or ys i 0) → (w < length xs → get_or xs w 0 ≡ get_or ys w 0 → ⊥) → common_prefix_len ◌==◌ xs ys ≡ w
+common_is [] ys w e h same other = omega arith
+common_is (x ∷ xs) [] w e h same other = let none : ⊥ = omega arith in absurd none
+common_is (x ∷ xs) (y ∷ ys) zero e h same other = simp (ne_eqb x y (other (omega arith)))
+common_is (x ∷ xs) (y ∷ ys) (suc w) e h same other =
+    let more = common_is xs ys w (omega arith) (omega arith) (λ i k. same (suc i) (omega arith)) (λ k. other (omega arith)) in simp (eq-eqb x y (same 0 (omega arith))) (omega arith)
 
 -- those from the first frame on for which something else is taken
 pub to_play_is : (p q : Peer) (xs ys : List ℕ) (w : ℕ) → Long xs → Long ys → q.own ≡ p.own → w ≤ p.own → ((i : ℕ) → i < w → other_at p.other xs i ≡ other_at q.other ys i) → (w < p.own → other_at p.other xs w ≡ other_at q.other ys w → ⊥) → to_play (log_of p xs) (log_of q ys) + w ≡ p.own
@@ -77,8 +78,8 @@ to_play_is p q xs ys w lx ly e h same other =
     let a = predicted_long p xs lx in
     let b = predicted_long q ys ly in
     let n = own_long q ys ly in
-    let first : alike (predicted (log_of p xs)) (predicted (log_of q ys)) ≡ w =
-    alike_is (predicted (log_of p xs)) (predicted (log_of q ys)) w (omega arith) (omega arith)
+    let first : common_prefix_len ◌==◌ (predicted (log_of p xs)) (predicted (log_of q ys)) ≡ w =
+    common_is (predicted (log_of p xs)) (predicted (log_of q ys)) w (omega arith) (omega arith)
     (λ i k. predicted_at p xs i lx (omega arith) ∙ same i k ∙ sym (predicted_at q ys i ly (omega arith)))
     (λ k d. other (omega arith) (sym (predicted_at p xs w lx (omega arith)) ∙ d ∙ predicted_at q ys w ly (omega arith))) in
     omega arith

@@ -3,7 +3,7 @@ use Rattle.std.specs.Prelude.{◌≡◌, ℕ, ◌+◌, ◌*◌, ◌%◌, ◌≤�
 use Rattle.game.specs.Saved.{SavedRules}
 use Rattle.game.specs.declared.seat.Seat.{Seat}
 use Rattle.peer.specs.declared.numbers.Peer.{Peer}
-use Rattle.peer.specs.Lent.{Long, Untouched, log_of, other_at, seated, after}
+use Rattle.peer.specs.Lent.{Long, LongStates, Untouched, log_of, other_at, seated, after}
 use Rattle.peer.specs.Peers.{Event, event, new_log, shows}
 
 -- ---- slots
@@ -25,7 +25,7 @@ Behind slots states states' = (i : ℕ) → slots * 64 ≤ i → slice_index sta
 -- it is long enough: inputs, and a slot more than the window
 pub record Roomy (window : ℕ) (inputs states : List ℕ) : Type 0 where
   pub inputs_long : Long inputs
-  pub states_long : (window + 1) * 64 ≤ length states
+  pub states_long : LongStates window states
 
 -- the state after k frames lies in slot k mod (window + 1), for each k from lo to hi; so many of the other's inputs came
 unfoldable pub Saved : {S : Type 0} → SavedRules S → Seat → ℕ → List ℕ → ℕ → List ℕ → ℕ → ℕ → Type 0

@@ -1,6 +1,6 @@
 // Frames played one after the other, each saved and counted.
-ghost use Rattle.std.specs.Prelude.{◌≡◌, ◌+◌, ◌*◌, ◌%◌, ◌<◌, ◌≤◌, length};
-ghost use Rattle.peer.specs.Lent.{seated, own_at, other_at};
+ghost use Rattle.std.specs.Prelude.{◌≡◌, ◌+◌, ◌%◌, ◌<◌, ◌≤◌};
+ghost use Rattle.peer.specs.Lent.{LongStates, seated, own_at, other_at};
 ghost use Rattle.rollback.specs.Saved.{Roomy, slot as slot_in, with_slot};
 
 use crate::slots::{load_at, save_at, slot_of};
@@ -20,7 +20,7 @@ pub(crate) struct Going<G> {
 impl<G: SavedGame> Going<G> {
     // From the state saved after so many frames.
     pub(crate) fn from_saved(p: &Peer, states: &[u8], frame: usize) -> Going<G>
-        requires { (p.now.window + 1) * 64 ≤ length states.now }
+        requires { LongStates p.now.window states.now }
         ensures frame { result.frame ≡ frame }
         ensures state { (s : G.states) → G.saved.ok s → slot_in states.now (frame % (p.now.window + 1)) ≡ G.saved.coded s → G.state result.state ≡ s }
         ensures played { result.played ≡ 0 }

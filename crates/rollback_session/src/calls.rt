@@ -4,7 +4,7 @@ ghost use Rattle.court_game.specs.Games.{court_game, is_input};
 ghost use Rattle.court_game.specs.Saved.{court_saved};
 ghost use Rattle.game.specs.declared.seat.Seat.{Seat as At};
 ghost use Rattle.packet.specs.Wire.{message_length};
-ghost use Rattle.peer.specs.Lent.{Long, log_of};
+ghost use Rattle.peer.specs.Lent.{Long, LongStates, log_of};
 ghost use Rattle.peer.specs.Said.{begin_checked};
 ghost use Rattle.peer.specs.Peers.{Event, shows, sends};
 ghost use Rattle.rollback.specs.declared.outcome.Outcome.TheVariants.{Taken};
@@ -136,7 +136,7 @@ pub fn draw(p: &Peer, states: &[u8], picture: &mut [u8]) -> Result<(), Refused>
 
 // Where the peer stands.
 pub fn status(p: &Peer, states: &[u8]) -> Result<Status, Refused>
-    ensures answer { MatchResult result (λ _. (p.now.window + 1) * 64 ≤ length states.now) (λ f. (f ≡ Refused.Peer States) × (length states.now < (p.now.window + 1) * 64)) }
+    ensures answer { MatchResult result (λ _. LongStates p.now.window states.now) (λ f. (f ≡ Refused.Peer States) × (length states.now < (p.now.window + 1) * 64)) }
     ensures row { IfOk result (λ s. (seat : At) (window : ℕ) (es : List Event) (inputs : List ℕ) → After seat window es (memory p.now inputs states.now) → s ≡ status_of seat (log_after window es)) }
 {
     let held: Held = shown(p, states)?;

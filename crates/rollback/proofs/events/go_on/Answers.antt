@@ -1,5 +1,5 @@
-use Rattle.std.proofs.Common.{◌≡◌, ℕ, ◌+◌, ◌*◌, ◌%◌, ◌<◌, ◌≤◌, min, length, get_or, sym, refl, ap, ◌∙◌, subst, mod-lt, arith}
-use Rattle.peer.specs.Lent.{seated, own_at, other_at, after}
+use Rattle.std.proofs.Common.{◌≡◌, ℕ, ◌+◌, ◌%◌, ◌<◌, ◌≤◌, min, get_or, sym, refl, ap, ◌∙◌, subst, mod-lt, arith}
+use Rattle.peer.specs.Lent.{LongStates, seated, own_at, other_at, after}
 use Rattle.peer.proofs.Shows.{after_more}
 use Rattle.rollback.specs.Saved.{Saved, slot}
 use Rattle.rollback.proofs.Bytes.{slot_behind}
@@ -23,7 +23,7 @@ returns g c =
     let at : k ≡ a = c.from_saved-game.ensures.frame in
     let s = g.G.SavedGame.state c.play_frame.new.self.state in
     let few = p.few in
-    let room : (q.window + 1) * 64 ≤ length states = omega (arith, c.requires.roomy.states_long, did.window) in
+    let room : LongStates q.window states = omega (arith, c.requires.roomy.states_long, did.window) in
     let here : (k + 1) % (q.window + 1) < q.window + 1 = mod-lt (k + 1) (omega arith) in
     record {
       window = did.window;

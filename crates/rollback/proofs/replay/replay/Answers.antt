@@ -1,5 +1,5 @@
-use Rattle.std.proofs.Common.{◌≡◌, ℕ, ◌+◌, ◌*◌, ◌%◌, ◌<◌, ◌≤◌, length, get_or, sym, refl, ap, ◌∙◌, subst, mod-lt, arith, rules}
-use Rattle.peer.specs.Lent.{seated, own_at, other_at, after}
+use Rattle.std.proofs.Common.{◌≡◌, ℕ, ◌+◌, ◌%◌, ◌<◌, get_or, sym, refl, ap, ◌∙◌, subst, mod-lt, arith, rules}
+use Rattle.peer.specs.Lent.{LongStates, seated, own_at, other_at, after}
 use Rattle.peer.proofs.Shows.{after_more}
 use Rattle.rollback.specs.Saved.{Saved}
 use Rattle.rollback.proofs.Bytes.{slot_behind}
@@ -38,7 +38,7 @@ replay-preserved g c =
     let states = c.replay.states in
     let did = c.play_frame.ensures in
     let s = g.G.SavedGame.state c.play_frame.new.self.state in
-    let room : (p.window + 1) * 64 ≤ length states = search rules in
+    let room : LongStates p.window states = search rules in
     let here : (k + 1) % (p.window + 1) < p.window + 1 = mod-lt (k + 1) (omega arith) in (
       omega arith,
       omega arith,
