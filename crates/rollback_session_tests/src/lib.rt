@@ -7,4 +7,6 @@ mod calls;
 #[cfg(test)]
 mod files;
 #[cfg(test)]
+mod machine;
+#[cfg(test)]
 mod sessions;
