@@ -4,25 +4,28 @@ use crate::naive::{Naive, Told, taken_for};
 use crate::random::{bytes_for, next, pick};
 use crate::trail::Trail;
 use court_game::entry::Held;
-use game::saved::SavedGame;
+use game::saved::{STATE_BYTES, SavedGame};
 use game::seat::Seat;
+use peer::memory::MOST_STATES;
 use rollback::Outcome;
 use std::alloc::Global;
 use std::process::Abort;
 use std::test::Fail;
 
-fn told(outcome: Outcome) -> Told {
-    match outcome {
-        Outcome::Taken(frames) => Told::Taken(frames),
-        Outcome::Lost => Told::Lost,
-        Outcome::Refused(_) => Told::Refused,
+impl From<Outcome> for Told {
+    fn from(outcome: Outcome) -> Told {
+        match outcome {
+            Outcome::Taken(frames) => Told::Taken(frames),
+            Outcome::Lost => Told::Lost,
+            Outcome::Refused(_) => Told::Refused,
+        }
     }
 }
 
 // Two states are the same where their bytes are.
 fn same_state<G: SavedGame>(a: G, b: G) -> bool {
-    let mut x = [0u8; 64];
-    let mut y = [0u8; 64];
+    let mut x = [0; STATE_BYTES];
+    let mut y = [0; STATE_BYTES];
     a.save(&mut x);
     b.save(&mut y);
     x == y
@@ -38,14 +41,14 @@ fn step<G: SavedGame>(
 ) -> Result<Told, Fail> {
     if pick(seed, 2) == 0 {
         let input = pick(next(seed), 17);
-        let said = told(machine.tick::<G>(input));
+        let said = Told::from(machine.tick::<G>(input));
         assert_eq!(rt; said, naive.tick(input)?);
         return Ok(said);
     }
-    let last = taken_for(naive.other.as_slice(), naive.other.len());
+    let last = taken_for(&naive.other, naive.other.len());
     let bytes = bytes_for(heap, naive.own.len(), naive.other.len(), last, next(seed))?;
-    let said = told(machine.receive::<G>(bytes.as_slice()));
-    assert_eq!(rt; said, naive.receive(bytes.as_slice())?);
+    let said = Told::from(machine.receive::<G>(&bytes));
+    assert_eq!(rt; said, naive.receive(&bytes)?);
     Ok(said)
 }
 
@@ -67,7 +70,7 @@ fn beside<G: SavedGame>(
     window: usize,
     seed: u32,
 ) -> Result<(), Fail> {
-    let mut machine = Machine::begin::<G>(heap, seat, window, 3904)?;
+    let mut machine = Machine::begin::<G>(heap, seat, window, MOST_STATES)?;
     let mut naive = Naive::new(heap, seat, window);
     let mut s = seed;
     let mut played = 0usize;

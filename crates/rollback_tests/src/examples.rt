@@ -5,6 +5,8 @@ use court_game::plain::play;
 use game::seat::Seat;
 use packet::Fault;
 use peer::Refusal;
+use peer::log::HALF;
+use peer::memory::{INPUTS, MOST_STATES};
 use rollback::Outcome;
 use rollback::events::begin;
 use std::process::Abort;
@@ -67,7 +69,7 @@ fn plays_what_was_wrong(rt: HostRuntime) -> Result<(), Fail> {
 // Seat 1 has its own inputs on the right, and predicts the last input that came.
 #[test]
 fn other_seat(rt: HostRuntime) -> Result<(), Fail> {
-    let mut machine = Machine::begin::<Held>(rt.alloc(), Seat::Right, 60, 3904)?;
+    let mut machine = Machine::begin::<Held>(rt.alloc(), Seat::Right, 60, MOST_STATES)?;
     let came = packet(0, 0, [1, 2, 4]);
     assert_eq!(rt; machine.receive::<Held>(&came), Outcome::Taken(0));
     ticks(&rt, &mut machine, 8, 5);
@@ -103,33 +105,26 @@ fn refused(rt: HostRuntime) -> Result<(), Fail> {
     let p = machine.p;
     assert_eq!(rt; (p.own, p.other, p.acked), (0, 0, 0));
     let inputs = &machine.inputs;
-    assert!(rt; inputs.len() == 2_000_000);
-    assert_eq!(rt; (inputs[0], inputs[1_000_000]), (7, 7));
+    assert_eq!(rt; inputs.len(), INPUTS);
+    assert_eq!(rt; (inputs[0], inputs[HALF]), (7, 7));
     Ok(())
 }
 
 // The window of a peer that begins; or the number and the place of its refusal.
 fn told(window: usize, inputs: &[u8], states: &mut [u8]) -> Result<usize, (u8, usize)> {
-    match begin::<Held>(Seat::Left, window, inputs, states) {
-        Ok(p) => Ok(p.window),
-        Err(f) => Err((f.number(), f.place())),
-    }
+    let p = begin::<Held>(Seat::Left, window, inputs, states);
+    p.map(|p| p.window).map_err(|f| (f.number(), f.place()))
 }
 
 #[test]
 fn begins(rt: HostRuntime) -> Result<(), Fail> {
-    let inputs = vec![in rt.alloc(); 0u8; 2_000_000]?;
-    assert_eq!(rt; told(0, inputs.as_slice(), &mut []), Err((5, 0)));
+    let inputs = vec![in rt.alloc(); 0u8; INPUTS]?;
+    let short = vec![in rt.alloc(); 0u8; 1_999_999]?;
+    assert_eq!(rt; told(0, &inputs, &mut []), Err((5, 0)));
     assert_eq!(rt; told(61, &[], &mut []), Err((5, 0)));
-    assert_eq!(rt;
-        told(60, &inputs.as_slice()[0..1_999_999], &mut []),
-        Err((5, 1))
-    );
-    let mut short = [0u8; 3903];
-    assert_eq!(rt; told(60, inputs.as_slice(), &mut short), Err((5, 2)));
-    let mut states = [0u8; 3904];
-    assert_eq!(rt; told(60, inputs.as_slice(), &mut states), Ok(60));
-    let mut least = [0u8; 128];
-    assert_eq!(rt; told(1, inputs.as_slice(), &mut least), Ok(1));
+    assert_eq!(rt; told(60, &short, &mut []), Err((5, 1)));
+    assert_eq!(rt; told(60, &inputs, &mut [0; 3903]), Err((5, 2)));
+    assert_eq!(rt; told(60, &inputs, &mut [0; 3904]), Ok(60));
+    assert_eq!(rt; told(1, &inputs, &mut [0; 128]), Ok(1));
     Ok(())
 }

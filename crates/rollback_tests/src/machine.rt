@@ -1,6 +1,7 @@
 // A peer with memory of its own, which is lent to it at each call.
 use game::saved::SavedGame;
 use game::seat::Seat;
+use peer::memory::INPUTS;
 use peer::{Peer, Refusal};
 use rollback::Outcome;
 use rollback::events::{begin, receive, tick};
@@ -23,31 +24,21 @@ impl Machine {
         window: usize,
         room: usize,
     ) -> Result<Machine, Fail> {
-        let inputs = vec![in heap; 7u8; 2_000_000]?;
+        let inputs = vec![in heap; 7u8; INPUTS]?;
         let mut states = vec![in heap; 9u8; room]?;
-        let p = begin::<G>(seat, window, inputs.as_slice(), states.as_mut_slice())?;
+        let p = begin::<G>(seat, window, &inputs, &mut states)?;
         Ok(Machine { p, inputs, states })
     }
 
     pub(crate) fn tick<G: SavedGame>(&mut self, input: u8) -> Outcome {
-        tick::<G>(
-            &mut self.p,
-            self.inputs.as_mut_slice(),
-            self.states.as_mut_slice(),
-            input,
-        )
+        tick::<G>(&mut self.p, &mut self.inputs, &mut self.states, input)
     }
 
     pub(crate) fn receive<G: SavedGame>(&mut self, bytes: &[u8]) -> Outcome {
-        receive::<G>(
-            &mut self.p,
-            self.inputs.as_mut_slice(),
-            self.states.as_mut_slice(),
-            bytes,
-        )
+        receive::<G>(&mut self.p, &mut self.inputs, &mut self.states, bytes)
     }
 
     pub(crate) fn shown<G: SavedGame>(&self) -> Result<G, Refusal> {
-        shown(&self.p, self.states.as_slice())
+        shown(&self.p, &self.states)
     }
 }

@@ -4,21 +4,28 @@ use game::seat::Seat;
 use std::alloc::Global;
 use std::test::Fail;
 
+// The rules' numbers once more: nothing here is the engine's.
+const LARGEST_INPUT: u8 = 15;
+
+const MOST_INPUTS: usize = 120;
+
+const MOST_FRAMES: usize = 1_000_000;
+
 // What an event came to: an `Outcome`, but for why something was refused, which this peer does not say.
 #[derive(Clone, Copy, PartialEq, Eq, Debug)]
-pub enum Told {
+pub(crate) enum Told {
     Taken(usize),
     Lost,
     Refused,
 }
 
 #[derive(Drop)]
-pub struct Naive {
-    pub seat: Seat,
-    pub window: usize,
-    pub own: Vec<u8>,
-    pub other: Vec<u8>,
-    pub acked: usize,
+pub(crate) struct Naive {
+    pub(crate) seat: Seat,
+    pub(crate) window: usize,
+    pub(crate) own: Vec<u8>,
+    pub(crate) other: Vec<u8>,
+    pub(crate) acked: usize,
 }
 
 // The input that is taken for a frame: the last of those that came for it and for the frames before it, or 0.
@@ -42,11 +49,10 @@ fn read(bytes: &[u8]) -> Option<Said> {
     };
     let first = usize::try_from(u32::from_le_bytes([*f0, *f1, *f2, *f3])).ok()?;
     let ack = usize::try_from(u32::from_le_bytes([*a0, *a1, *a2, *a3])).ok()?;
-    let many = inputs.len() > 120 || first > 1_000_000 || first + inputs.len() > 1_000_000;
-    if usize::from(*count) != inputs.len() || many || inputs.iter().any(|input| *input > 15) {
-        return None;
-    }
-    Some(Said { first, ack, inputs })
+    let whole = usize::from(*count) == inputs.len() && inputs.len() <= MOST_INPUTS;
+    let early = first <= MOST_FRAMES && first + inputs.len() <= MOST_FRAMES;
+    let good = whole && early && inputs.iter().all(|input| *input <= LARGEST_INPUT);
+    good.then_some(Said { first, ack, inputs })
 }
 
 impl Naive {
@@ -61,7 +67,7 @@ impl Naive {
     }
 
     pub(crate) fn tick(&mut self, input: u8) -> Result<Told, Fail> {
-        if input > 15 {
+        if input > LARGEST_INPUT {
             return Ok(Told::Refused);
         }
         let ahead = self.own.len().saturating_sub(self.other.len());
@@ -92,7 +98,7 @@ impl Naive {
     // How many frames there are from the first on whose input changed, where so many had come before.
     fn changed(&self, before: usize) -> usize {
         let other = self.other.as_slice();
-        let old = &other[0..before.min(other.len())];
+        let old = &other[..before.min(other.len())];
         let frames = self.own.len();
         (0..frames)
             .find(|frame| taken_for(old, *frame) != taken_for(other, *frame))
@@ -101,8 +107,8 @@ impl Naive {
 
     pub(crate) fn shows<G: Game>(&self) -> G {
         let mut state = G::start();
-        for (frame, own) in self.own.as_slice().iter().enumerate() {
-            let other = taken_for(self.other.as_slice(), frame);
+        for (frame, own) in self.own.iter().enumerate() {
+            let other = taken_for(&self.other, frame);
             let (left, right) = self.seat.in_order(*own, other);
             state = state.advance(left, right);
         }

@@ -2,35 +2,32 @@
 use court::Court;
 use court_game::plain::play;
 use court_game::snapshot::{load_state, save_state};
+use game::saved::STATE_BYTES;
 
 #[test]
 fn start_in_bytes(rt: HostRuntime) {
-    let mut bytes = [7u8; 64];
+    let mut bytes = [7; STATE_BYTES];
     save_state(Court::new(), &mut bytes);
     let head =
         b"\x00\x50\x00\x00\x00\x3c\x00\x00\x00\x02\x00\x00\x00\x01\x00\x00\x00\x08\x00\x00\x00\x3c\x00\x00\x00\x98\x00\x00\x00\x3c\x00\x00\x00\x00\x3c";
-    assert!(rt; bytes[0..35] == head[0..35]);
-    assert!(rt; bytes[35..64] == [0u8; 29][0..29]);
+    assert_eq!(rt; bytes.first_chunk(), Some(head));
+    assert_eq!(rt; bytes.last_chunk(), Some(&[0; 29]));
 }
 
 // The ball goes to the left, so its velocity is below 0.
 #[test]
 fn negative_velocity(rt: HostRuntime) {
-    let none = [0u8; 100];
-    let court = play(&none, &none);
-    let mut bytes = [7u8; 64];
+    let court = play(&[0; 100], &[0; 100]);
+    let mut bytes = [7; STATE_BYTES];
     save_state(court, &mut bytes);
-    assert_eq!(rt;
-        (bytes[8], bytes[9], bytes[10], bytes[11]),
-        (0, 254, 255, 255)
-    );
+    assert_eq!(rt; &bytes[8..12], [0, 254, 255, 255].as_slice());
     assert_eq!(rt; load_state(&bytes).state, court.state);
 }
 
 // Bytes that no state of a game has are brought into the court.
 #[test]
 fn any_bytes(rt: HostRuntime) {
-    let high = load_state(&[255u8; 64]).state;
+    let high = load_state(&[255; STATE_BYTES]).state;
     assert_eq!(rt; (high.score.left, high.score.right, high.wait), (9, 9, 60));
     assert_eq!(rt;
         (high.ball.x, high.ball.dx),

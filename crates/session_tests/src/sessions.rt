@@ -1,5 +1,8 @@
+// Whole sessions: the pictures at their ends, and what is refused.
 use court_game::plain::play;
 use game::seat::Seat;
+use peer::memory::{INPUTS, MOST_STATES};
+use picture::LENGTH;
 use session::Happening;
 use session::whole::play_session;
 use std::alloc::AllocGlobal;
@@ -17,20 +20,12 @@ fn check_picture(
     left: &[u8],
     right: &[u8],
 ) -> Result<(), Fail> {
-    let mut inputs = vec![in rt.alloc(); 7u8; 2_000_000]?;
-    let states = vec![in rt.alloc(); 0u8; 3904]?;
-    let mut shown = vec![in rt.alloc(); 9u8; 19203]?;
-    let mut plain = vec![in rt.alloc(); 9u8; 19203]?;
-    let done = play_session(
-        seat,
-        window,
-        inputs.as_mut_slice(),
-        states.as_slice(),
-        shown.as_mut_slice(),
-        events,
-    );
-    assert!(rt; done.is_ok());
-    assert!(rt; picture::draw(play(left, right), plain.as_mut_slice()).is_ok());
+    let mut inputs = vec![in rt.alloc(); 7u8; INPUTS]?;
+    let states = vec![in rt.alloc(); 0u8; MOST_STATES]?;
+    let mut shown = vec![in rt.alloc(); 9u8; LENGTH + 3]?;
+    let mut plain = vec![in rt.alloc(); 9u8; LENGTH + 3]?;
+    play_session(seat, window, &mut inputs, &states, &mut shown, events)?;
+    picture::draw(play(left, right), &mut plain)?;
     assert_eq!(rt; shown.as_slice(), plain.as_slice());
     Ok(())
 }
@@ -73,32 +68,30 @@ fn told(
     length: usize,
     events: &[Happening],
 ) -> Result<Option<(u8, usize)>, Fail> {
-    let mut inputs = vec![in rt.alloc(); 7u8; 2_000_000]?;
+    let mut inputs = vec![in rt.alloc(); 7u8; INPUTS]?;
     let states = vec![in rt.alloc(); 0u8; 128]?;
     let mut picture = vec![in rt.alloc(); 9u8; length]?;
-    match play_session(
+    let done = play_session(
         Seat::Left,
         window,
-        inputs.as_mut_slice(),
-        states.as_slice(),
-        picture.as_mut_slice(),
+        &mut inputs,
+        &states,
+        &mut picture,
         events,
-    ) {
-        Ok(_) => Ok(None),
-        Err(f) => Ok(Some((f.number(), f.place()))),
-    }
+    );
+    Ok(done.err().map(|f| (f.number(), f.place())))
 }
 
 #[test]
 fn refusals(rt: HostRuntime) -> Result<(), Fail> {
     let events = [Happening::Tick(0), Happening::Arrival(&THREE_EIGHTS)];
-    assert_eq!(rt; told(rt, 0, 19200, &events)?, Some((5, 0)));
+    assert_eq!(rt; told(rt, 0, LENGTH, &events)?, Some((5, 0)));
     assert_eq!(rt;
         told(rt, 2, 19199, &events)?,
         Some((5, 2)),
         "the states come before the picture"
     );
     assert_eq!(rt; told(rt, 1, 19199, &events)?, Some((5, 3)));
-    assert_eq!(rt; told(rt, 1, 19200, &events)?, None);
+    assert_eq!(rt; told(rt, 1, LENGTH, &events)?, None);
     Ok(())
 }
