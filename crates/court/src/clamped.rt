@@ -31,6 +31,7 @@ fn clamp_paddle(p: Paddle, half: Span) -> Paddle
 
 impl Court {
     // Each number brought into its range. A state in the court stays as it is.
+    #[tactic(auto, using(crate::proofs::Ranges::clamped_same))]
     pub fn clamped(s: State) -> Court
         ensures value { result.state ≡ clamped_in s }
         ensures same { InCourt s → result.state ≡ s }
