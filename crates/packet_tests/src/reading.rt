@@ -1,13 +1,11 @@
 // Packets right and wrong, with the number and the place that they are refused with.
 use packet::Packet;
-use std::test::Fail;
 
 // How many inputs a packet has, for a peer that has made five; or the number and the place of its refusal.
 fn told(packet: &[u8]) -> Result<usize, (u8, usize)> {
-    match Packet::read(packet, 5) {
-        Ok(p) => Ok(p.inputs.len()),
-        Err(f) => Err((f.number(), f.place())),
-    }
+    Packet::read(packet, 5)
+        .map(|p| p.inputs.len())
+        .map_err(|f| (f.number(), f.place()))
 }
 
 #[test]
@@ -30,12 +28,14 @@ fn taken(rt: HostRuntime) {
 }
 
 #[test]
-fn fields(rt: HostRuntime) -> Result<(), Fail> {
+fn fields(rt: HostRuntime) {
     let bytes = b"H\x03\x02\x01\x00\x03\x0b\x0a\x00\x00\x04\x05\x06";
-    let p = Packet::read(bytes, 1_000_000)?;
-    assert_eq!(rt; (p.first, p.ack), (66051, 2571));
-    assert_eq!(rt; p.inputs, [4, 5, 6].as_slice());
-    Ok(())
+    let packet = Packet {
+        first: 66051,
+        ack: 2571,
+        inputs: &[4, 5, 6],
+    };
+    assert_eq!(rt; Packet::read(bytes, 1_000_000), Ok(packet));
 }
 
 #[test]

@@ -1,14 +1,12 @@
 // Packets written into lent memory, and read from it.
 use packet::{Packet, Unwritten};
-use std::test::Fail;
 
 #[test]
 fn bytes(rt: HostRuntime) {
-    let inputs = [4u8, 5, 6];
     let packet = Packet {
         first: 66051,
         ack: 2571,
-        inputs: &inputs,
+        inputs: &[4, 5, 6],
     };
     let mut out = [9u8; 16];
     assert_eq!(rt; packet.write(&mut out), Ok(13));
@@ -20,11 +18,10 @@ fn bytes(rt: HostRuntime) {
 
 #[test]
 fn no_room(rt: HostRuntime) {
-    let inputs = [4u8, 5, 6];
     let packet = Packet {
         first: 0,
         ack: 0,
-        inputs: &inputs,
+        inputs: &[4, 5, 6],
     };
     let mut out = [9u8; 12];
     assert_eq!(rt; packet.write(&mut out), Err(Unwritten::NoRoom));
@@ -33,7 +30,7 @@ fn no_room(rt: HostRuntime) {
 
 // 120 inputs are as many as a packet has.
 #[test]
-fn most_inputs(rt: HostRuntime) -> Result<(), Fail> {
+fn most_inputs(rt: HostRuntime) {
     let inputs = [15u8; 121];
     let mut out = [9u8; 140];
     let over = Packet {
@@ -44,13 +41,10 @@ fn most_inputs(rt: HostRuntime) -> Result<(), Fail> {
     assert_eq!(rt; over.write(&mut out), Err(Unwritten::Overfull));
     assert_eq!(rt; out[0], 9);
     let full = Packet {
-        first: 999_880,
-        ack: 5,
-        inputs: &inputs[0..120],
+        inputs: &inputs[..120],
+        ..over
     };
     assert_eq!(rt; full.write(&mut out), Ok(130));
     assert_eq!(rt; out[130], 9);
-    let p = Packet::read(&out[0..130], 5)?;
-    assert_eq!(rt; (p.first, p.ack, p.inputs.len()), (999_880, 5, 120));
-    Ok(())
+    assert_eq!(rt; Packet::read(&out[..130], 5), Ok(full));
 }

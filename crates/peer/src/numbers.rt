@@ -1,4 +1,5 @@
-// A peer's numbers. Its inputs lie in memory that is lent anew at each call, so they are a parameter beside it.
+// A peer's numbers. Its inputs lie in memory that is lent anew at each call, so they are a parameter beside it, and what
+// works on both is a function: a method would take the same.
 ghost use Rattle.std.specs.Prelude.{◌≡◌, ◌+◌, ◌≤◌, min, ◌&&◌, Ok, Err, IfOk, MatchResult, nat_lt};
 ghost use Rattle.peer.specs.Windows.{window_checked};
 
@@ -8,7 +9,7 @@ use game::seat::Seat;
 
 pub(crate) const MOST_WINDOW: usize = 60;
 
-#[derive(Clone, Copy)]
+#[derive(Clone, Copy, PartialEq, Eq, Debug)]
 pub struct Peer {
     pub seat: Seat,
     // How many frames it may be ahead of the other's inputs that it has.

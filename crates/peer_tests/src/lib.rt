@@ -7,4 +7,6 @@ mod events;
 #[cfg(test)]
 mod logs;
 #[cfg(test)]
+mod machine;
+#[cfg(test)]
 mod packets;
