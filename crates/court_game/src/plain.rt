@@ -7,7 +7,6 @@ ghost use Rattle.game.specs.Plain.{plays, seat_0, seat_1};
 
 use crate::entry::Held;
 use court::Court;
-
 pub use game::plain::MOST_FRAMES;
 
 // All inputs of both seats from the start, as many frames as both have. Each Court carries what `inside` says, here and below;
