@@ -1,5 +1,5 @@
 -- Slots in lent bytes. Assumes nothing.
-use Rattle.std.proofs.Common.{◌≡◌, ℕ, ◌+◌, ◌-◌, ◌*◌, ◌<◌, ◌≤◌, List, length, take, drop, sym, ap, ◌∙◌, inl, inr, arith}
+use Rattle.std.proofs.Common.{◌≡◌, ℕ, ◌+◌, ◌-◌, ◌*◌, ◌<◌, ◌≤◌, List, length, get_or, take, drop, sym, ap, ◌∙◌, inl, inr, arith}
 use Rattle.std.specs.List.{between}
 use Rattle.std.proofs.lemmas.Slice.{between-put_mid, between_is, take-put_mid_below, drop-put_mid}
 use Rattle.std.proofs.lemmas.Bool.{cases_order}
@@ -11,9 +11,9 @@ unfolding slot
 slot_is xs i = let e : (i * 64 + 64) - i * 64 ≡ 64 = omega arith in rw e
 
 -- what was written
-pub slot_same : (xs bs : List ℕ) (i : ℕ) → i * 64 + 64 ≤ length xs → length bs ≡ 64 → slot (with_slot xs i bs) i ≡ bs
+pub slot_same : (xs ys bs : List ℕ) (i : ℕ) → ys ≡ with_slot xs i bs → i * 64 + 64 ≤ length xs → length bs ≡ 64 → slot ys i ≡ bs
 unfolding with_slot
-slot_same xs bs i h l = slot_is _ i ∙ between-put_mid (i * 64) 64 xs bs (i * 64 + 64) (omega arith) (omega arith)
+slot_same xs ys bs i e h l = ap (λ zs. slot zs i) e ∙ slot_is _ i ∙ between-put_mid (i * 64) 64 xs bs (i * 64 + 64) (omega arith) (omega arith)
 
 slot_after : (xs bs : List ℕ) (i j : ℕ) → i * 64 + 64 ≤ length xs → length bs ≡ 64 → i < j → slot (with_slot xs i bs) j ≡ slot xs j
 unfolding slot with_slot
@@ -36,6 +36,6 @@ slot_other xs bs i j h l ne =
     ]
 
 -- and so is what lies behind the slots
-pub slot_behind : (xs bs : List ℕ) (i n : ℕ) → i < n → n * 64 ≤ length xs → length bs ≡ 64 → Behind n xs (with_slot xs i bs)
+pub slot_behind : (xs ys bs : List ℕ) (i n : ℕ) → ys ≡ with_slot xs i bs → i < n → n * 64 ≤ length xs → length bs ≡ 64 → Behind n xs ys
 unfolding with_slot
-slot_behind xs bs i n h l m k far = get_or_put_mid_other (i * 64) 64 xs bs k m (omega arith) (λ out. omega (arith, out.1))
+slot_behind xs ys bs i n e h l m k far = ap (λ zs. get_or zs k 0) e ∙ get_or_put_mid_other (i * 64) 64 xs bs k m (omega arith) (λ out. omega (arith, out.1))

@@ -3,3 +3,4 @@ pub mod Windows
 pub mod Predictions
 pub mod Joins
 pub mod Rowed
+pub mod Taken

@@ -90,7 +90,7 @@ fn check_tick<G: SavedGame>(
 }
 
 // A frame's time, with the input at the peer's own seat.
-#[tactic(auto, using(peer::proofs::Logs::goes_on_is), unfolding(crate::specs::Said::said_tick, peer::specs::Peers::event))]
+#[tactic(auto, using(peer::proofs::Logs::goes_on_is, crate::proofs::Taken::is_taken), unfolding(crate::specs::Said::said_tick, peer::specs::Peers::event))]
 pub fn tick<G: SavedGame>(p: &mut Peer, inputs: &mut [u8], states: &mut [u8], input: u8) -> Outcome
     ensures answer { result ≡ said_tick G.saved.fits p.old.window (length inputs.old) (length states.old) (log_of p.old inputs.old) input }
     ensures happens { Happened G.saved p.old inputs.old states.old (ticked input) p.new inputs.new states.new }
@@ -122,7 +122,7 @@ fn read_packet<'a>(
 }
 
 // Bytes that came from the other.
-#[tactic(auto, using(peer::proofs::Logs::own_long), unfolding(crate::specs::Said::said_arrival, peer::specs::Peers::event))]
+#[tactic(auto, using(peer::proofs::Logs::own_long, crate::proofs::Taken::is_taken), unfolding(crate::specs::Said::said_arrival, peer::specs::Peers::event))]
 pub fn receive<G: SavedGame>(
     p: &mut Peer,
     inputs: &mut [u8],

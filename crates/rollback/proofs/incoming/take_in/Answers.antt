@@ -1,4 +1,4 @@
-use Rattle.std.proofs.Common.{◌≡◌, ◌<◌, refl, arith, rules}
+use Rattle.std.proofs.Common.{◌≡◌, ◌<◌, min, refl, arith, rules}
 use Rattle.peer.specs.Lent.{Long, seated}
 use Rattle.rollback.specs.Saved.{Saved}
 use Rattle.rollback.proofs.Joins.{found, found_after}
@@ -30,10 +30,10 @@ returns-in-Some g c =
       untouched = j.untouched;
       behind = λ i h. c.replay.ensures.behind i (omega (arith, j.window));
       keeps = λ kept.
-          saved_as r q.seat q.seat q.window q.window ys ys q.other q.other c.replay.new.states w _ q.own q.own refl refl (omega (arith, low)) (omega arith) (λ k l. refl)
+          saved_as r q.seat q.seat q.window q.window ys ys q.other q.other c.replay.new.states _ _ q.own q.own refl refl (omega (arith, low)) (omega arith) (λ k l. refl)
           (c.replay.ensures.saved
-          (saved_as r p.seat q.seat p.window q.window xs ys p.other q.other states _ w p.own w j.seat j.window (omega (arith, new)) (omega arith)
-          (found_after (seated p.seat r.game) p q xs ys w (omega arith) f) kept w (omega arith) (omega arith)));
+          (saved_as r p.seat q.seat p.window q.window xs ys p.other q.other states _ (min p.own p.other) p.own w j.seat j.window (omega arith) (omega arith)
+          (found_after (seated p.seat r.game) p q xs ys w (omega arith) f) kept _ (omega (arith, new)) (omega arith)));
       count = omega (arith, c.replay.ensures.count, n);
       few = omega (arith, c.replay.ensures.count, new, p.ahead);
       guessed = λ e. absurd (f.wrong behind (taken_same p q xs ys w c.requires.roomy.inputs_long ly behind (omega arith) e));

@@ -7,10 +7,15 @@ abbrev pub invariant-replay : goal.invariant-replay
 invariant-replay g l =
     let r = g.G.SavedGame.saved in
     let p = l.p in
-    (l.from ≤ l.game.frame) × (l.game.frame ≤ p.own) × (l.game.played + l.from ≡ l.game.frame) × Behind (p.window + 1) l.initial.states l.states
-    × (slot l.initial.states (l.from % (p.window + 1)) ≡ r.coded (after (seated p.seat r.game) l.inputs p.other l.from) →
-    (g.G.SavedGame.state l.game.state ≡ after (seated p.seat r.game) l.inputs p.other l.game.frame)
-    × Saved r p.seat p.window l.inputs p.other l.states l.from l.game.frame)
+    record {
+      begun : l.from ≤ l.game.frame;
+      within : l.game.frame ≤ p.own;
+      counted : l.game.played + l.from ≡ l.game.frame;
+      behind : Behind (p.window + 1) l.initial.states l.states;
+      saved : slot l.initial.states (l.from % (p.window + 1)) ≡ r.coded (after (seated p.seat r.game) l.inputs p.other l.from) →
+          (g.G.SavedGame.state l.game.state ≡ after (seated p.seat r.game) l.inputs p.other l.game.frame)
+          × Saved r p.seat p.window l.inputs p.other l.states l.from l.game.frame;
+    }
 
 abbrev pub decreases-replay : goal.decreases-replay
 decreases-replay g l = l.p.own - l.game.frame

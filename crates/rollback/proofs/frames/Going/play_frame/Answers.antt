@@ -1,6 +1,6 @@
-use Rattle.std.proofs.Common.{ℕ, get_or, ap, ◌∙◌}
+use Rattle.std.proofs.Common.{◌≡◌, ℕ, get_or, ap, ◌∙◌}
+use Rattle.game.specs.Seats.{in_order}
 use Rattle.peer.specs.Lent.{seated, own_at}
-use Rattle.rollback.specs.Saved.{with_slot}
 use Rattle.peer.proofs.Shows.{seated_frame}
 use Rattle.rollback.proofs.frames.Going.play_frame.Goals as goal
 
@@ -12,11 +12,8 @@ returns-clause-state g c =
     let old = c.args.self.now in
     let s = g.G.SavedGame.state old.state in
     let own = get_or c.args.inputs.now old.frame 0 in
+    let sides : c.in_order-left.result ≡ in_order seat own c.other_input-other.result = cc in
     g.met.G.SavedGame.same_game.goes_on old.state c.advance-self.result _ _ c.advance-self.ensures
-    ∙ ap (λ (i : ℕ × ℕ). rules.game.frame s i.0 i.1) c.in_order-left.ensures
+    ∙ ap (λ (i : ℕ × ℕ). rules.game.frame s i.0 i.1) sides
     ∙ seated_frame seat rules.game s own c.other_input-other.result
     ∙ ap ((seated seat rules.game).frame s own) c.other_input-other.ensures
-
-pub returns-clause-saved : goal.returns-clause-saved
-returns-clause-saved g c =
-    c.save_at.ensures ∙ ap (λ i. with_slot c.args.states.now i (g.G.SavedGame.saved.coded (g.G.SavedGame.state c.advance-self.result))) c.slot_of.ensures.value
