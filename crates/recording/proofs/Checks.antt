@@ -27,17 +27,25 @@ heads xs h = let m = h.mark in let n = h.near in grind (arith, nat_tests)
 pub frames_there : (xs : List ℕ) → Headed xs → length (frames_in xs) ≡ count_in xs
 frames_there xs h = let w = h.whole in simp (length-take, length-drop) (omega arith)
 
+pub few_frames : (xs fs : List ℕ) → head_checked xs ≡ Ok tt → fs ≡ frames_in xs → length fs ≤ 1000000
+few_frames xs fs e f = let h = headed xs e in let n = ap length f ∙ frames_there xs h in omega arith
+
 -- ---- the states
 
 pub length_due : (xs : List ℕ) → length (due_in xs) ≡ 64 * (count_in xs / 600)
 length_due xs = length_marks (frames_in xs) (count_in xs / 600)
 
 -- by the parts that the code has
+pub due_as : (xs fs : List ℕ) → Headed xs → fs ≡ frames_in xs → marks fs (length fs / 600) ≡ due_in xs
+due_as xs fs h e =
+    let n : length fs ≡ count_in xs = ap length e ∙ frames_there xs h in
+    ap (λ k. marks fs (k / 600)) n ∙ ap (λ zs. marks zs (count_in xs / 600)) e
+
 pub told_as : (xs fs states : List ℕ) → Headed xs → fs ≡ frames_in xs → states ≡ states_in xs → (let due : List ℕ = marks fs (length fs / 600) in states_told (8 + length fs) (differing states due) (length states) (length due) ≡ states_checked xs)
 unfolding states_checked
 told_as xs fs states h e f =
     let n : length fs ≡ count_in xs = ap length e ∙ frames_there xs h in
-    let due : marks fs (length fs / 600) ≡ due_in xs = ap (λ k. marks fs (k / 600)) n ∙ ap (λ zs. marks zs (count_in xs / 600)) e in
+    let due = due_as xs fs h e in
     cc
 
 pub states_right : (xs : List ℕ) → states_checked xs ≡ Ok tt → states_in xs ≡ due_in xs

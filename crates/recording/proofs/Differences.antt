@@ -1,17 +1,22 @@
 -- Where two rows first differ, as far as both go. Assumes nothing.
-use Rattle.std.proofs.Common.{◌≡◌, ℕ, ◌<◌, ◌≤◌, min, Bool, true, false, not, eqb, List, length, get_or, Some, None, sym, ap, ◌∙◌, inl, inr, arith}
+use Rattle.std.proofs.Common.{◌≡◌, ℕ, ◌+◌, ◌<◌, ◌≤◌, min, Bool, true, false, not, eqb, List, length, get_or, drop, Some, None, sym, ap, ◌∙◌, inl, inr, arith}
 use Rattle.std.specs.List.{position_or_len, zip}
 use Rattle.std.proofs.lemmas.Bool.{cases_lt}
 use Rattle.std.proofs.lemmas.Bool.Decides.{nat_tests}
-use Rattle.std.proofs.lemmas.List.{ext_get_or}
+use Rattle.std.proofs.lemmas.List.{ext_get_or, get_or-take, get_or-drop}
 use Rattle.std.proofs.lemmas.List.Quantifiers.{position-Some}
 use Rattle.std.proofs.lemmas.List.Sums.{position_or_len_is, fails_before_first}
 use Rattle.std.proofs.lemmas.Slice.Zip.{get_or-zip, length-zip}
+use Rattle.byte_numbers.specs.Little.{part}
 use Rattle.recording.specs.Reading.{differing}
 
 -- rows that are the same below a place
 abbrev pub Alike : List ℕ → List ℕ → ℕ → Type 0
 Alike xs ys n = (i : ℕ) → i < n → i < length xs → i < length ys → get_or xs i 0 ≡ get_or ys i 0
+
+-- a byte of a part
+pub part_byte : (xs : List ℕ) (n k i : ℕ) → i < k → get_or (part xs n k) i 0 ≡ get_or xs (n + i) 0
+part_byte xs n k i h = get_or-take k (drop n xs) i 0 h ∙ get_or-drop n xs i 0
 
 abbrev differ : ℕ × ℕ → Bool
 differ p = not (eqb p.0 p.1)
@@ -43,6 +48,9 @@ differing_some xs ys k e =
     let n = length-zip xs ys in
     let here = sym (pair xs ys k (omega arith) (omega arith)) ∙ h.1 in
     (omega arith, omega arith, grind (arith, nat_tests), λ same. grind (arith, nat_tests))
+
+pub differs_below : (xs ys : List ℕ) (k : ℕ) → Some k ≡ differing xs ys → k < length xs
+differs_below xs ys k e = (differing_some xs ys k (sym e)).0
 
 pub differing_none : (xs ys : List ℕ) → differing xs ys ≡ None → min (length xs) (length ys) ≤ same_to xs ys
 differing_none xs ys e = let n = length-zip xs ys in grind (arith, nat_tests)

@@ -1,7 +1,7 @@
 -- Saved states against those that the frames give. Assumes nothing.
 use Rattle.std.proofs.Common.{◌≡◌, ℕ, zero, suc, ◌+◌, ◌-◌, ◌*◌, ◌/◌, ◌<◌, ◌≤◌, ◌⊎◌, min, List, [], ◌++◌, map, length, get_or, take, drop, Some, None, sym, refl, ap, ◌∙◌, inl, inr, arith, length-append, length-drop, length-take}
 use borrow.Rule.Slice.PartMut.{put_mid}
-use Rattle.std.proofs.lemmas.List.{append-nil, append_assoc, take_at, take_min, drop_at, drop_min, drop-drop, get_or-take, get_or-drop}
+use Rattle.std.proofs.lemmas.List.{append-nil, append_assoc, take_at, take_min, drop_at, drop_min, drop-drop}
 use Rattle.std.proofs.lemmas.Bool.{cases_lt}
 use Rattle.byte_numbers.specs.Little.{part}
 use Rattle.court.specs.declared.state.State.{State}
@@ -10,7 +10,7 @@ use Rattle.court_game.specs.Snapshots.{state_bytes}
 use Rattle.game.specs.Plain.{plays, seat_0, seat_1}
 use Rattle.recording.specs.Matches.{after_frames, marks}
 use Rattle.recording.specs.Reading.{differing}
-use Rattle.recording.proofs.Differences.{Alike, same_below, differing_some, differing_none, differs_at, differs_nowhere}
+use Rattle.recording.proofs.Differences.{Alike, part_byte, same_below, differing_some, differing_none, differs_at, differs_nowhere}
 use Rattle.recording.proofs.Frames.{after_part, marks_more, length_marks}
 
 -- the state after the frames of one part more
@@ -54,9 +54,6 @@ saved_at states fs n m k e some h f =
     ∙ ap (λ i. state_bytes (after_frames (take (600 * i) fs))) next
 
 -- ---- rows that are compared part by part
-
-part_byte : (xs : List ℕ) (n k i : ℕ) → i < k → get_or (part xs n k) i 0 ≡ get_or xs (n + i) 0
-part_byte xs n k i h = get_or-take k (drop n xs) i 0 h ∙ get_or-drop n xs i 0
 
 length_part : (xs : List ℕ) (n k : ℕ) → length (part xs n k) ≡ min k (length xs - n)
 length_part xs n k = simp (length-take, length-drop)

@@ -1,14 +1,15 @@
 -- What is read is what was written, and only that. Assumes nothing.
-use Rattle.std.proofs.Common.{◌≡◌, ℕ, ◌+◌, ◌/◌, ◌<◌, ◌≤◌, List, ◌∷◌, ◌++◌, length, get_or, take, drop, Ok, Err, None, sym, refl, ap, ◌∙◌, inl, inr, arith, length-take}
-use Rattle.std.proofs.lemmas.List.{drop_more, take-append-drop, length-take-le, get_or-take, get_or-drop, get_or_past, ext_get_or}
+use Rattle.std.proofs.Common.{◌≡◌, ℕ, ◌+◌, ◌/◌, ◌<◌, ◌≤◌, List, ◌∷◌, ◌++◌, length, get_or, take, drop, Ok, Err, Result, None, sym, refl, ap, ◌∙◌, subst, inl, inr, arith, length-take}
+use Rattle.std.proofs.lemmas.List.{drop_more, take-append-drop, length-take-le, get_or-take, get_or_past, ext_get_or}
 use Rattle.std.proofs.lemmas.Bool.{cases_lt}
 use Rattle.byte_numbers.specs.Little.{little, part}
 use Rattle.byte_numbers.proofs.Places.{little_part, part_rest}
 use Rattle.recording.specs.declared.fault.Fault.{Fault}
+use Rattle.recording.specs.declared.held.Recording.{Recording}
 use Rattle.recording.specs.Matches.{Match, marks, match_bytes}
-use Rattle.recording.specs.Reading.{differing, mark_bytes, window_in, count_in, frames_in, states_in, due_in, head_checked, states_checked, reading, Proper}
-use Rattle.recording.proofs.Checks.{Headed, frames_there}
-use Rattle.recording.proofs.Differences.{same_below, differing_none}
+use Rattle.recording.specs.Reading.{differing, mark_bytes, window_in, count_in, frames_in, states_in, due_in, head_checked, states_told, states_checked, reading, match_in, PartsOf, Right, Proper}
+use Rattle.recording.proofs.Checks.{Headed, headed, frames_there, due_as, told_as, states_right}
+use Rattle.recording.proofs.Differences.{part_byte, same_below, differing_none}
 
 abbrev pub found_in : List ℕ → Match
 found_in xs = record { window = window_in xs; frames = frames_in xs }
@@ -54,14 +55,28 @@ read_back xs b h e =
     ∙ sym (marked xs (omega arith) h.mark)
 
 -- a byte of a part is a byte
-part_byte : (xs : List ℕ) (at n i : ℕ) → ((k : ℕ) → get_or xs k 0 < 256) → get_or (part xs at n) i 0 < 256
-part_byte xs at n i b =
+part_fits : (xs : List ℕ) (at n i : ℕ) → ((k : ℕ) → get_or xs k 0 < 256) → get_or (part xs at n) i 0 < 256
+part_fits xs at n i b =
     elim (cases_lt i n) [
-      | inl h ↦ let e = get_or-take n (drop at xs) i 0 h ∙ get_or-drop at xs i 0 in let k = b (at + i) in omega arith
+      | inl h ↦ let e = part_byte xs at n i h in let k = b (at + i) in omega arith
       | inr h ↦ let e = get_or_past (part xs at n) i 0 (omega (arith, length-take n (drop at xs))) in omega arith
     ]
 
 pub read_proper : (xs : List ℕ) → ((i : ℕ) → get_or xs i 0 < 256) → Headed xs → Proper (found_in xs)
 read_proper xs b h =
     let long = frames_there xs h in
-    record { near = h.near; few = omega arith; bytes = λ i. part_byte xs 8 (count_in xs) i b }
+    record { near = h.near; few = omega arith; bytes = λ i. part_fits xs 8 (count_in xs) i b }
+
+-- what the reader hands back, once its parts are judged
+pub taken : (xs : List ℕ) (r : Recording) → ((i : ℕ) → get_or xs i 0 < 256) → PartsOf xs (Ok r) → (let due : List ℕ = marks r.frames.now (length r.frames.now / 600) in Ok tt ≡ states_told (8 + length r.frames.now) (differing r.states.now due) (length r.states.now) (length due)) → (Ok (match_in r) ≡ reading xs) × Proper (match_in r) × Right r × (match_bytes (match_in r) ≡ xs)
+taken xs r b parts told =
+    let h = headed xs parts.0 in
+    let checked = sym (told ∙ told_as xs _ _ h parts.2 parts.3) in
+    let right = states_right xs checked in
+    let same : match_in r ≡ found_in xs = cc in
+    let ok : Match → Result Match Fault = λ m. Ok m in (
+      ap ok same ∙ sym (all_right xs parts.0 checked),
+      subst Proper (sym same) (read_proper xs b h),
+      parts.3 ∙ right ∙ sym (due_as xs _ h parts.2),
+      ap match_bytes same ∙ read_back xs b h right,
+    )

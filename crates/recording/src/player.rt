@@ -22,6 +22,7 @@ fn play_rest(from: Court, rest: &[u8]) -> Court
 
 impl Recording<'_> {
     // The state after so many times 600 frames; none where it is not saved.
+    #[tactic(auto, using(crate::proofs::Frames::length_marks), unfolding(game::specs::Plain::plays))]
     fn saved(&self, marks: usize) -> Option<Court>
         requires { marks ≤ length self.now.frames.now / 600 }
         ensures { Right self.now → IsSomeAnd result (λ c. c.state ≡ after_frames (take (600 * marks) self.now.frames.now)) }

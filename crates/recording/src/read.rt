@@ -78,7 +78,7 @@ impl<'a> Recording<'a> {
     }
 
     // The saved states, behind frames that are right.
-    #[tactic(auto, using(crate::proofs::Frames::length_marks))]
+    #[tactic(auto, using(crate::proofs::Differences::differs_below, crate::proofs::Frames::length_marks))]
     fn check_states(&self) -> Result<(), Fault>
         requires { length self.now.frames.now ≤ 1000000 }
         ensures { let due = marks self.now.frames.now (length self.now.frames.now / 600) in result ≡ states_told (8 + length self.now.frames.now) (differing self.now.states.now due) (length self.now.states.now) (length due) }
@@ -96,7 +96,7 @@ impl<'a> Recording<'a> {
     }
 
     // Bytes as a recording, or their first fault. One that is taken is written as those very bytes.
-    #[tactic(auto, using(crate::proofs::Checks::headed, crate::proofs::Checks::told_as), unfolding(crate::specs::Reading::reading))]
+    #[tactic(auto, using(crate::proofs::Checks::few_frames, crate::proofs::Checks::headed, crate::proofs::Checks::told_as), unfolding(crate::specs::Reading::reading))]
     pub fn read(bytes: &'a [u8]) -> Result<Recording<'a>, Fault>
         ensures value { read_as result ≡ reading bytes.now }
         ensures proper { IfOk result (λ m. Proper (match_in m)) }

@@ -5,16 +5,6 @@ use Rattle.recording.specs.Matches.{frame_byte}
 use Rattle.recording.proofs.Frames.{put_next, put_last}
 use Rattle.recording.proofs.write.put_frames.Goals as goal
 
-pub loop-k-init : goal.loop-k-init
-loop-k-init c =
-    let it = c.into_iter-k-iterator.result in
-    let gives = c.into_iter-k-iterator.ensures.into_iter_gives in
-    let source : enumerate_source it ≡ c.zip.result = ap enumerate_source gives ∙ c.enumerate-k-items.ensures.source in
-    let none : enumerate_count it ≡ 0 = ap enumerate_count gives ∙ c.enumerate-k-items.ensures.count in
-    let xs : iter_rest (zip_first (enumerate_source it)) ≡ c.args.left.now = ap (λ z. iter_rest (zip_first z)) source ∙ cc in
-    let ys : iter_rest (zip_second (enumerate_source it)) ≡ c.args.right.now = ap (λ z. iter_rest (zip_second z)) source ∙ cc in
-    simp (none, xs, ys) (omega arith, omega arith, refl)
-
 pub loop-k-preserved : goal.loop-k-preserved
 loop-k-preserved c =
     let s = c.in-Some.ensures.steps in

@@ -13,8 +13,9 @@ loop-j-init c =
     let it = c.into_iter-j-iterator.result in
     let gives = c.into_iter-j-iterator.ensures.into_iter_gives in
     let source = ap enumerate_source gives ∙ c.enumerate-j-items.ensures.source in
-    let none : enumerate_count it ≡ 0 = ap enumerate_count gives ∙ c.enumerate-j-items.ensures.count in (
-      ap chunks_exact_size source ∙ c.chunks_exact.ensures.size,
+    let none : enumerate_count it ≡ 0 = ap enumerate_count gives ∙ c.enumerate-j-items.ensures.count in
+    let size = ap chunks_exact_size source ∙ c.chunks_exact.ensures.size in (
+      omega arith,
       simp none (record { left_is = ap chunks_exact_rest source ∙ c.chunks_exact.ensures.rest; state_is = c.new-state.ensures.value; within = omega arith }),
       simp none refl,
     )

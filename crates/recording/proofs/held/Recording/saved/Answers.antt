@@ -8,18 +8,6 @@ use Rattle.recording.proofs.Frames.{length_marks}
 use Rattle.recording.proofs.Marked.{saved_at}
 use Rattle.recording.proofs.held.Recording.saved.Goals as goal
 
-pub returns-then-marks-eq0 : goal.returns-then-marks-eq0
-unfolding plays
-returns-then-marks-eq0 c =
-    λ _. c.new.ensures.value ∙ ap (λ m. after_frames (take (600 * m) c.args.self.now.frames.now)) (sym c.if-marks-eq0.true)
-
-pub returns-in_err-saved : goal.returns-in_err-saved
-returns-in_err-saved c =
-    λ right.
-    let fs = c.args.self.now.frames.now in
-    let long : length c.args.self.now.states.now ≡ 64 * (length fs / 600) = ap length right ∙ length_marks fs (length fs / 600) in
-    absurd (omega (arith, c.in_err-saved.ensures.lookup.0))
-
 pub returns : goal.returns
 returns c =
     λ right.

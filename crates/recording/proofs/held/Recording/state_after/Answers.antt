@@ -6,9 +6,6 @@ use Rattle.recording.specs.Matches.{after_frames}
 use Rattle.recording.proofs.Frames.{after_on}
 use Rattle.recording.proofs.held.Recording.state_after.Goals as goal
 
-pub returns-in_err-from : goal.returns-in_err-from
-returns-in_err-from c = λ right. absurd (c.in_err-from.ensures right)
-
 pub returns : goal.returns
 returns c =
     λ right.

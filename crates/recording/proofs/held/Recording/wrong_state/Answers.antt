@@ -3,6 +3,7 @@ use Rattle.std.specs.Iterator.Adapters.{enumerate_source, enumerate_count, zip_f
 use Rattle.std.specs.Slice.Iter.{chunks_rest, chunks_size, chunks_exact_rest, chunks_exact_size}
 use Rattle.game.specs.Plain.{plays}
 use Rattle.recording.specs.Matches.{marks}
+use Rattle.recording.specs.Reading.{differing}
 use Rattle.recording.proofs.Marked.{turned, compared_more, found, all_compared}
 use Rattle.recording.proofs.held.Recording.wrong_state.Goals as goal
 
@@ -13,7 +14,8 @@ loop-j-init c =
     let source = ap enumerate_source c.into_iter-j-iterator.ensures.into_iter_gives ∙ c.enumerate-j-items.ensures.source in
     let first = ap zip_first source ∙ c.zip.ensures.first in
     let second = ap zip_second source ∙ c.zip.ensures.second in
-    let many : chunks_exact_size (zip_first (enumerate_source it)) ≡ 600 = ap chunks_exact_size first ∙ c.chunks_exact-parts.ensures.size in
+    let size = ap chunks_exact_size first ∙ c.chunks_exact-parts.ensures.size in
+    let many : chunks_exact_size (zip_first (enumerate_source it)) ≡ 600 = omega arith in
     let big : chunks_size (zip_second (enumerate_source it)) ≡ 64 = ap chunks_size second ∙ c.chunks.ensures.size in
     let none : enumerate_count it ≡ 0 = ap enumerate_count c.into_iter-j-iterator.ensures.into_iter_gives ∙ c.enumerate-j-items.ensures.count in
     let frames = ap chunks_exact_rest first ∙ c.chunks_exact-parts.ensures.rest in
@@ -28,7 +30,8 @@ overflow_add-result c =
     let s = c.in-Some.ensures.steps in
     let before = c.loop-j.invariant in
     let t = turned _ _ _ _ _ _ _ _ _ _ _ _ _ before.2.2 s.0.0.1 before.2.0 s.0.1.1 before.2.1 c.play_frames.ensures in
-    let here = found _ _ _ _ _ _ _ _ _ before.2.2.right t c.bytes_of.ensures c.in-Some-first_difference.ensures in
+    let differs : Some c.in-Some-first_difference.at ≡ differing c.in-Some.saved.now c.bytes_of.result = search c.in-Some-first_difference.ensures in
+    let here = found _ _ _ _ _ _ _ _ _ before.2.2.right t c.bytes_of.ensures differs in
     omega arith
 
 pub returns-in-Some-first_difference : goal.returns-in-Some-first_difference
@@ -36,7 +39,8 @@ returns-in-Some-first_difference c =
     let s = c.in-Some.ensures.steps in
     let before = c.loop-j.invariant in
     let t = turned _ _ _ _ _ _ _ _ _ _ _ _ _ before.2.2 s.0.0.1 before.2.0 s.0.1.1 before.2.1 c.play_frames.ensures in
-    let here = found _ _ _ _ _ _ _ _ _ before.2.2.right t c.bytes_of.ensures c.in-Some-first_difference.ensures in
+    let differs : Some c.in-Some-first_difference.at ≡ differing c.in-Some.saved.now c.bytes_of.result = search c.in-Some-first_difference.ensures in
+    let here = found _ _ _ _ _ _ _ _ _ before.2.2.right t c.bytes_of.ensures differs in
     ap (λ j. Some (64 * j + c.in-Some-first_difference.at)) s.1 ∙ sym here.0
 
 pub loop-j-preserved : goal.loop-j-preserved
