@@ -1,6 +1,6 @@
 -- Both machines' memory along a row of moves. Assumes nothing.
 use Rattle.std.proofs.Common.{◌≡◌, ℕ, Vec, Global, ◌+◌, ◌<◌, ◌≤◌, Bool, true, false, cond, leb, List, [], ◌∷◌, ◌++◌, map, length, get_or, take, sym, refl, ap, ◌∙◌, subst, arith}
-use Rattle.std.proofs.lemmas.List.{take_more}
+use Rattle.std.proofs.lemmas.List.{take_all, take_more}
 use Rattle.court_game.specs.Games.{court_game}
 use Rattle.court_game.specs.Saved.{court_saved}
 use Rattle.court.specs.declared.state.State.{State}
@@ -23,12 +23,19 @@ use Rattle.exchange.specs.Agreed.{Agree}
 use Rattle.exchange.proofs.Machines.{narrow}
 use Rattle.exchange.specs.Moves.{court_network, court_turn, sends_at, acted, moves_on, after_moves, PeerAt, PacketsAt}
 
--- both memories, and all packets, are those of a network
-pub record Holds (window : ℕ) (n : Network) (left right : Memory) (to_left to_right : List (Vec ℕ Global)) : Type 0 where
-  pub left_at : PeerAt window n Left left
-  pub right_at : PeerAt window n Right right
-  pub left_packets : PacketsAt n Left to_left
-  pub right_packets : PacketsAt n Right to_right
+-- both memories, and all packets, are those of a network: the machine at a seat, and the other one
+pub record Holds (window : ℕ) (n : Network) (seat : Seat) (own other : Memory) (to_own to_other : List (Vec ℕ Global)) : Type 0 where
+  pub own_at : PeerAt window n seat own
+  pub other_at : PeerAt window n (facing seat) other
+  pub own_packets : PacketsAt n seat to_own
+  pub other_packets : PacketsAt n (facing seat) to_other
+
+-- the same, the other one first
+pub flipped : (window : ℕ) (n : Network) (seat : Seat) (l r : Memory) (tl tr : List (Vec ℕ Global)) → Holds window n seat l r tl tr → Holds window n (facing seat) r l tr tl
+flipped window n Left l r tl tr h =
+    record { own_at = h.other_at; other_at = h.own_at; own_packets = h.other_packets; other_packets = h.own_packets }
+flipped window n Right l r tl tr h =
+    record { own_at = h.other_at; other_at = h.own_at; own_packets = h.other_packets; other_packets = h.own_packets }
 
 -- ---- what a move leaves
 
@@ -50,17 +57,16 @@ leaves window n Right (Deliver k) = (refl, refl)
 
 -- ---- both machines, move by move
 
-pub holds_left : (window : ℕ) (n : Network) (act : Act) (l k r : Memory) (tl tr ur : List (Vec ℕ Global)) → Holds window n l r tl tr → PeerAt window (acted window n Left act) Left k × PacketsAt (acted window n Left act) Right ur → Holds window (acted window n Left act) k r tl ur
-holds_left window n act l k r tl tr ur h did =
-    let same = leaves window n Left act in
-    let P : Log → Type 0 = λ log. StandsFor court_saved Right window log r in
-    record { left_at = did.0; right_at = subst P (sym same.0) h.right_at; left_packets = h.left_packets ∙ ap (map message_bytes) (sym same.1); right_packets = did.1 }
+pub holds_more : (window : ℕ) (n : Network) (seat : Seat) (act : Act) (l k r : Memory) (tl tr ur : List (Vec ℕ Global)) → Holds window n seat l r tl tr → PeerAt window (acted window n seat act) seat k × PacketsAt (acted window n seat act) (facing seat) ur → Holds window (acted window n seat act) seat k r tl ur
+holds_more window n seat act l k r tl tr ur h did =
+    let same = leaves window n seat act in
+    let P : Log → Type 0 = λ log. StandsFor court_saved (facing seat) window log r in
+    record { own_at = did.0; other_at = subst P (sym same.0) h.other_at; own_packets = h.own_packets ∙ ap (map message_bytes) (sym same.1); other_packets = did.1 }
 
-pub holds_right : (window : ℕ) (n : Network) (act : Act) (l r k : Memory) (tl tr ul : List (Vec ℕ Global)) → Holds window n l r tl tr → PeerAt window (acted window n Right act) Right k × PacketsAt (acted window n Right act) Left ul → Holds window (acted window n Right act) l k ul tr
-holds_right window n act l r k tl tr ul h did =
-    let same = leaves window n Right act in
-    let P : Log → Type 0 = λ log. StandsFor court_saved Left window log l in
-    record { left_at = subst P (sym same.0) h.left_at; right_at = did.0; left_packets = did.1; right_packets = h.right_packets ∙ ap (map message_bytes) (sym same.1) }
+-- after the last move
+pub holds_all : (window : ℕ) (row : List Move) (i : ℕ) (l r : Memory) (tl tr : List (Vec ℕ Global)) → length row ≤ i → Holds window (after_moves window (take i row)) Left l r tl tr → Holds window (after_moves window row) Left l r tl tr
+holds_all window row i l r tl tr end h =
+    subst (λ ms. Holds window (after_moves window ms) Left l r tl tr) (take_all i row end) h
 
 moves_push : (window : ℕ) (n : Network) (ms : List Move) (m : Move) → moves_on window n (ms ++ m ∷ []) ≡ acted window (moves_on window n ms) m.seat m.act
 unfolding moves_on
@@ -116,19 +122,19 @@ network_agrees window ts =
       right_near = not_far (λ b. leb b 15) window ts Right;
     }
 
-pub holds_agree : (window : ℕ) (ms : List Move) (l r : Memory) (tl tr : List (Vec ℕ Global)) → Holds window (after_moves window ms) l r tl tr → Agree window (log_of l.peer l.inputs) (log_of r.peer r.inputs)
+pub holds_agree : (window : ℕ) (ms : List Move) (l r : Memory) (tl tr : List (Vec ℕ Global)) → Holds window (after_moves window ms) Left l r tl tr → Agree window (log_of l.peer l.inputs) (log_of r.peer r.inputs)
 holds_agree window ms l r tl tr h =
     let is = after_network window ms in
     let P : Network → Type 0 = λ n. Agree window n.left n.right in
     let all = subst P (sym is.1) (network_agrees window is.0) in
-    subst (λ a. Agree window a (log_of r.peer r.inputs)) (sym h.left_at.log_is) (subst (λ b. Agree window (after_moves window ms).left b) (sym h.right_at.log_is) all)
+    subst (λ a. Agree window a (log_of r.peer r.inputs)) (sym h.own_at.log_is) (subst (λ b. Agree window (after_moves window ms).left b) (sym h.other_at.log_is) all)
 
 -- and are sure of what both had played before a packet of each came
-pub holds_sure : (window : ℕ) (ms : List Move) (l r : Memory) (tl tr : List (Vec ℕ Global)) (m : ℕ) (ts : List Turn) → Holds window (after_moves window ms) l r tl tr → after_moves window ms ≡ court_network window ts → ((seat : Seat) → Came (λ b. leb b 15) window m ts seat) → (m ≤ confirmed (log_of l.peer l.inputs)) × (m ≤ confirmed (log_of r.peer r.inputs))
+pub holds_sure : (window : ℕ) (ms : List Move) (l r : Memory) (tl tr : List (Vec ℕ Global)) (m : ℕ) (ts : List Turn) → Holds window (after_moves window ms) Left l r tl tr → after_moves window ms ≡ court_network window ts → ((seat : Seat) → Came (λ b. leb b 15) window m ts seat) → (m ≤ confirmed (log_of l.peer l.inputs)) × (m ≤ confirmed (log_of r.peer r.inputs))
 holds_sure window ms l r tl tr m ts h e came =
     let near = l.peer.near in
-    let is = h.left_at.window_is in
+    let is = h.own_at.window_is in
     let few : window ≤ 60 = omega arith in
     let all = both_sure window few (λ b. leb b 15) m ts narrow came in
     let P : Log → Type 0 = λ log. m ≤ confirmed log in
-    (subst P (sym (h.left_at.log_is ∙ ap (λ n. n.left) e)) (all Left), subst P (sym (h.right_at.log_is ∙ ap (λ n. n.right) e)) (all Right))
+    (subst P (sym (h.own_at.log_is ∙ ap (λ n. n.left) e)) (all Left), subst P (sym (h.other_at.log_is ∙ ap (λ n. n.right) e)) (all Right))

@@ -63,7 +63,7 @@ impl<'a> Machine<'a> {
             &mut self.peer,
             self.inputs,
             self.states,
-            Happening::Arrival(packet.as_slice()),
+            Happening::Arrival(packet),
             &mut out,
         );
         self.tally = self.tally.counted(Act::Deliver(number), answer.outcome);

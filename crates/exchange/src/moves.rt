@@ -2,7 +2,7 @@
 use game::seat::Seat;
 
 // What happens at one of them.
-#[derive(Clone, Copy)]
+#[derive(Clone, Copy, PartialEq, Eq, Debug)]
 pub enum Act {
     // A frame's time, with the input there; the packet that is then sent is written.
     Tick(u8),
@@ -10,7 +10,7 @@ pub enum Act {
     Deliver(usize),
 }
 
-#[derive(Clone, Copy)]
+#[derive(Clone, Copy, PartialEq, Eq, Debug)]
 pub struct Move {
     pub seat: Seat,
     pub act: Act,

@@ -48,18 +48,18 @@ pub enum Unplayed {
 }
 
 impl From<AllocError> for Unplayed {
-    ghost from_gives = { λ _ e. e ≡ NoMemory };
+    ghost from_gives = { λ _ unplayed. unplayed ≡ NoMemory };
 
-    fn from(_e: AllocError) -> Unplayed {
+    fn from(_: AllocError) -> Unplayed {
         Unplayed::NoMemory
     }
 }
 
 impl From<Refused> for Unplayed {
-    ghost from_gives = { λ f e. e ≡ Unbegun f };
+    ghost from_gives = { λ refused unplayed. unplayed ≡ Unbegun refused };
 
-    fn from(f: Refused) -> Unplayed {
-        Unplayed::Refused(f)
+    fn from(refused: Refused) -> Unplayed {
+        Unplayed::Refused(refused)
     }
 }
 
@@ -104,8 +104,8 @@ pub fn play_moves(
     for step in row {
         // `in_order` of references to machines is not covered.
         match step.seat {
-            Seat::Left => left.act(step.act, to_left.as_slice(), &mut to_right)?,
-            Seat::Right => right.act(step.act, to_right.as_slice(), &mut to_left)?,
+            Seat::Left => left.act(step.act, &to_left, &mut to_right)?,
+            Seat::Right => right.act(step.act, &to_right, &mut to_left)?,
         }
     }
     Ok(Both {

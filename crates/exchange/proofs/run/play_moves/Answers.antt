@@ -1,27 +1,28 @@
-use Rattle.std.proofs.Common.{rules, ◌≡◌, ◌+◌, ◌≤◌, List, map, get_or, take, vec_items, refl, ap, ◌∙◌, subst, arith}
+use Rattle.std.proofs.Common.{rules, ◌≡◌, ◌+◌, ◌≤◌, List, [], map, get_or, take, vec_items, refl, ap, ◌∙◌, subst, arith}
 use Rattle.game.specs.declared.seat.Seat.TheVariants.{Left, Right}
-use Rattle.std.proofs.lemmas.List.{take_all}
 use Rattle.exchange.specs.declared.moves.Act.TheVariants.{Tick}
 use Rattle.exchange.specs.declared.moves.Move.{Move}
 use Rattle.peer.specs.Lent.{log_of}
 use Rattle.peer.specs.Peers.{confirmed}
+use Rattle.rollback_session.specs.Rows.{After, memory}
 use Rattle.exchange.specs.Agreed.{Agree}
 use Rattle.exchange.specs.Moves.{acted, after_moves, memory_of, moves_on}
-use Rattle.exchange.proofs.Held.{Holds, holds_left, holds_right, holds_agree, holds_sure, moves_more}
+use Rattle.exchange.proofs.Held.{flipped, holds_more, holds_all, holds_agree, holds_sure, moves_more}
 use Rattle.exchange.proofs.Machines.{begun_at}
 use Rattle.exchange.proofs.run.play_moves.Goals as goal
 
 pub loop-step-init : goal.loop-step-init
 unfolding moves_on
-loop-step-init c = (
-  record {
-    left_at = begun_at c.args.window Left _ c.in_ok-peer.ensures.row;
-    right_at = begun_at c.args.window Right _ c.in_ok-peer-2.ensures.row;
-    left_packets = ap (map vec_items) c.new-to_left.ensures.items;
-    right_packets = ap (map vec_items) c.new-to_right.ensures.items;
-  },
-  ((refl, refl), (refl, refl)),
-)
+loop-step-init c =
+    let right : After Right c.args.window [] (memory c.in_ok-peer-2.peer c.args.right_inputs.now c.begin-2.new.states) = search (rules, c.in_ok-peer-2.ensures.row) in (
+      record {
+        own_at = begun_at c.args.window Left _ c.in_ok-peer.ensures.row;
+        other_at = begun_at c.args.window Right _ right;
+        own_packets = ap (map vec_items) c.new-to_left.ensures.items;
+        other_packets = ap (map vec_items) c.new-to_right.ensures.items;
+      },
+      ((refl, refl), (refl, refl)),
+    )
 
 pub loop-step-preserved : goal.loop-step-preserved
 loop-step-preserved c =
@@ -38,13 +39,13 @@ loop-step-preserved c =
       | goal.in-Left+in_ok-act-in-Left w ↦
           let next : after_moves window (take (i + 1) row) ≡ acted window n Left act = more ∙ ap (λ s. acted window n s act) w.in-Left.is in
           let did = w.in_ok-act-in-Left.ensures in
-          let at = did.at window n Left h.left_at (ap (map vec_items) w.as_slice.ensures.value ∙ h.left_packets) h.right_packets in
-          simp (w.left-is, w.right-is, w.to_left-is, w.to_right-is, next) (holds_left window n act _ _ _ _ _ _ h at, ((did.lent.0 ∙ lent.0.0, did.lent.1 ∙ lent.0.1), lent.1))
+          let at = did.at window n Left h.own_at (ap (map vec_items) w.deref.ensures.value ∙ h.own_packets) h.other_packets in
+          simp (w.left-is, w.right-is, w.to_left-is, w.to_right-is, next) (holds_more window n Left act _ _ _ _ _ _ h at, ((did.lent.0 ∙ lent.0.0, did.lent.1 ∙ lent.0.1), lent.1))
       | goal.in-Right+in_ok-act-in-Right w ↦
           let next : after_moves window (take (i + 1) row) ≡ acted window n Right act = more ∙ ap (λ s. acted window n s act) w.in-Right.is in
           let did = w.in_ok-act-in-Right.ensures in
-          let at = did.at window n Right h.right_at (ap (map vec_items) w.as_slice-in-Right.ensures.value ∙ h.right_packets) h.left_packets in
-          simp (w.left-is, w.right-is, w.to_left-is, w.to_right-is, next) (holds_right window n act _ _ _ _ _ _ h at, (lent.0, (did.lent.0 ∙ lent.1.0, did.lent.1 ∙ lent.1.1)))
+          let at = did.at window n Right h.other_at (ap (map vec_items) w.deref-in-Right.ensures.value ∙ h.other_packets) h.own_packets in
+          simp (w.left-is, w.right-is, w.to_left-is, w.to_right-is, next) (flipped window _ Right _ _ _ _ (holds_more window n Right act _ _ _ _ _ _ (flipped window n Left _ _ _ _ h) at), (lent.0, (did.lent.0 ∙ lent.1.0, did.lent.1 ∙ lent.1.1)))
     ]
 
 pub returns-clause-agree : goal.returns-clause-agree
@@ -52,8 +53,7 @@ returns-clause-agree c =
     let row = c.args.row.now in
     let l = memory_of c.loop-step.left in
     let r = memory_of c.loop-step.right in
-    let P : List Move → Type 0 = λ ms. Holds c.args.window (after_moves c.args.window ms) l r (vec_items c.loop-step.to_left) (vec_items c.loop-step.to_right) in
-    let agree : Agree c.args.window (log_of l.peer l.inputs) (log_of r.peer r.inputs) = holds_agree c.args.window row l r _ _ (subst P (take_all c.loop-step.step-index row (omega arith)) c.loop-step.invariant.0) in
+    let agree : Agree c.args.window (log_of l.peer l.inputs) (log_of r.peer r.inputs) = holds_agree c.args.window row l r _ _ (holds_all c.args.window row c.loop-step.step-index l r _ _ (omega arith) c.loop-step.invariant.0) in
     search (rules, agree)
 
 pub returns-clause-sure : goal.returns-clause-sure
@@ -61,6 +61,5 @@ returns-clause-sure c = λ m ts e came.
     let row = c.args.row.now in
     let l = memory_of c.loop-step.left in
     let r = memory_of c.loop-step.right in
-    let P : List Move → Type 0 = λ ms. Holds c.args.window (after_moves c.args.window ms) l r (vec_items c.loop-step.to_left) (vec_items c.loop-step.to_right) in
-    let sure : (m ≤ confirmed (log_of l.peer l.inputs)) × (m ≤ confirmed (log_of r.peer r.inputs)) = holds_sure c.args.window row l r _ _ m ts (subst P (take_all c.loop-step.step-index row (omega arith)) c.loop-step.invariant.0) e came in
+    let sure : (m ≤ confirmed (log_of l.peer l.inputs)) × (m ≤ confirmed (log_of r.peer r.inputs)) = holds_sure c.args.window row l r _ _ m ts (holds_all c.args.window row c.loop-step.step-index l r _ _ (omega arith) c.loop-step.invariant.0) e came in
     search (rules, sure)
