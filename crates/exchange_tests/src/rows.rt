@@ -4,15 +4,18 @@ use exchange::moves::{Act, Move};
 use exchange::run::{Both, Played, Unplayed, play_moves};
 use exchange::tally::Tally;
 use game::seat::Seat;
+use peer::Refusal;
 use peer::log::HALF;
 use peer::memory::{INPUTS, MOST_STATES};
 use picture::LENGTH;
+use rollback_session::Refused;
 use rollback_session::calls::draw;
 use std::alloc::AllocGlobal;
 use std::process::Abort;
 use std::test::Fail;
 
-// One machine's memory.
+// One machine's memory. `radio` and `play` have such a struct too: a library of two `vec!`s, with its contract, edit and test, would
+// be longer than all three.
 #[derive(Drop)]
 struct Memory {
     inputs: Vec<u8>,
@@ -42,18 +45,18 @@ fn play_row(
     left: &mut Memory,
     right: &mut Memory,
     row: &[Move],
-) -> Result<Result<Both, Unplayed>, Fail> {
+) -> Result<Both, Unplayed> {
     let picture = vec![in rt.alloc(); 0u8; LENGTH]?;
-    Ok(play_moves(
+    play_moves(
         rt.alloc(),
         window,
-        left.inputs.as_mut_slice(),
-        left.states.as_mut_slice(),
-        right.inputs.as_mut_slice(),
-        right.states.as_mut_slice(),
-        picture.as_slice(),
+        &mut left.inputs,
+        &mut left.states,
+        &mut right.inputs,
+        &mut right.states,
+        &picture,
         row,
-    ))
+    )
 }
 
 // A machine has these inputs, its own and the other's, and shows the plain game of them.
@@ -65,7 +68,7 @@ fn check_machine(
     own: &[u8],
     other: &[u8],
 ) -> Result<(), Fail> {
-    let inputs = memory.inputs.as_slice();
+    let inputs = &memory.inputs;
     assert_eq!(rt; played.peer.own, own.len());
     assert_eq!(rt; played.peer.other, other.len());
     assert!(rt; inputs.starts_with(own));
@@ -73,9 +76,9 @@ fn check_machine(
     let (left, right) = seat.in_order(own, other);
     let mut shown = vec![in rt.alloc(); 0u8; LENGTH]?;
     let mut plain = vec![in rt.alloc(); 0u8; LENGTH]?;
-    assert!(rt; draw(&played.peer, memory.states.as_slice(), shown.as_mut_slice()).is_ok());
-    assert!(rt; picture::draw(play(left, right), plain.as_mut_slice()).is_ok());
-    assert_eq!(rt; shown.as_slice(), plain.as_slice());
+    assert!(rt; draw(&played.peer, &memory.states, &mut shown).is_ok());
+    assert!(rt; picture::draw(play(left, right), &mut plain).is_ok());
+    assert_eq!(rt; shown, plain);
     Ok(())
 }
 
@@ -89,9 +92,7 @@ fn check_row(
 ) -> Result<(Tally, Tally), Fail> {
     let mut at_left = lend(rt, MOST_STATES)?;
     let mut at_right = lend(rt, MOST_STATES)?;
-    let Ok(both) = play_row(rt, window, &mut at_left, &mut at_right, row)? else {
-        panic!(rt; "the row is not played");
-    };
+    let both = play_row(rt, window, &mut at_left, &mut at_right, row)?;
     check_machine(rt, Seat::Left, both.left, &at_left, left, right)?;
     check_machine(rt, Seat::Right, both.right, &at_right, right, left)?;
     Ok((both.left.tally, both.right.tally))
@@ -155,16 +156,17 @@ fn tallies(rt: HostRuntime) -> Result<(), Fail> {
 #[test]
 fn beginnings(rt: HostRuntime) -> Result<(), Fail> {
     check_row(&rt, 60, &[], &[], &[])?;
-    for (window, states, place) in [(0, 64, 0), (61, MOST_STATES, 0), (1, 127, 2)] {
+    for (window, states, refusal, place) in [
+        (0, 64, Refusal::Window, 0),
+        (61, MOST_STATES, Refusal::Window, 0),
+        (1, 127, Refusal::States, 2),
+    ] {
         let mut left = lend(&rt, MOST_STATES)?;
         let mut right = lend(&rt, states)?;
-        match play_row(&rt, window, &mut left, &mut right, &[])? {
-            Err(Unplayed::Refused(refused)) => {
-                assert_eq!(rt; refused.number(), 5);
-                assert_eq!(rt; refused.place(), place);
-            }
-            _ => panic!(rt; "a session begins"),
-        }
+        let refused = Refused::from(refusal);
+        let played = play_row(&rt, window, &mut left, &mut right, &[]);
+        assert_eq!(rt; played.err(), Some(Unplayed::Refused(refused)));
+        assert_eq!(rt; (refused.number(), refused.place()), (5, place));
     }
     Ok(())
 }

@@ -2,6 +2,7 @@
 use crate::writing::{ahead, fill};
 use court::state::Score;
 use game::seat::Seat;
+use peer::memory::INPUTS;
 use picture::LENGTH;
 use recording::show::{Shown, Unshown, show};
 use recording::write::write;
@@ -39,30 +40,29 @@ fn faults(rt: HostRuntime) {
 // Frames before and behind a saved state, and the first byte of that which is wrong or not there.
 #[test]
 fn shows(rt: HostRuntime) -> Result<(), Fail> {
-    let mut inputs = vec![in rt.alloc(); 0u8; 2_000_000]?;
-    fill(&rt, inputs.as_mut_slice());
+    let mut inputs = vec![in rt.alloc(); 0u8; INPUTS]?;
+    fill(&rt, &mut inputs);
     let mut bytes = [0u8; 672];
     assert_eq!(rt;
-        write(&ahead(Seat::Left, 600), inputs.as_slice(), &mut bytes),
+        write(&ahead(Seat::Left, 600), &inputs, &mut bytes),
         Ok(672)
     );
     let mut picture = vec![in rt.alloc(); 7u8; LENGTH]?;
-    let canvas = picture.as_mut_slice();
     let shown = Shown {
         frames: 600,
         score: Score { left: 0, right: 0 },
     };
-    assert_eq!(rt; show(&bytes, 600, canvas), Ok(shown));
-    assert_eq!(rt; show(&bytes, 599, canvas), Ok(shown));
-    assert_eq!(rt; show(&bytes, 601, canvas), Err(Unshown::Beyond(600)));
+    assert_eq!(rt; show(&bytes, 600, &mut picture), Ok(shown));
+    assert_eq!(rt; show(&bytes, 599, &mut picture), Ok(shown));
+    assert_eq!(rt; show(&bytes, 601, &mut picture), Err(Unshown::Beyond(600)));
     assert_eq!(rt; show(&bytes, 0, &mut [0; 19_199]), Err(Unshown::Picture));
     assert_eq!(rt;
-        show(&bytes[0..640], 0, canvas),
+        show(&bytes[0..640], 0, &mut picture),
         Err(Unshown::Recording(Fault::CutShort(640)))
     );
     bytes[610] = 1;
     assert_eq!(rt;
-        show(&bytes, 0, canvas),
+        show(&bytes, 0, &mut picture),
         Err(Unshown::Recording(Fault::WrongState(610)))
     );
     Ok(())
