@@ -6,12 +6,28 @@
 
 use anyhow::bail;
 use court::{Court, Input};
-use packet::{MOST_LENGTH, Packet};
+use packet::{MOST_INPUTS, MOST_LENGTH, Packet};
 use picture::{LENGTH, draw};
 use std::env;
 use std::process::ExitCode;
 
 const USAGE: &str = "usage: bench pictures|packets COUNT";
+
+// A game is over where a seat has so many points.
+const LAST_POINT: u8 = 9;
+
+// From the byte of one picture that counts to that of the next.
+const STRIDE: usize = 7919;
+
+// Where a packet has its number of inputs, how many of the reader's it has, and its inputs.
+const COUNT_AT: usize = 5;
+
+const ACK_AT: usize = 6;
+
+const INPUTS_AT: usize = 10;
+
+// As many inputs as the reader has made.
+const MADE: u32 = 1_000_000;
 
 // Casts here lose nothing, which the check proves; no `From` narrows.
 fn input(n: u32) -> Input {
@@ -21,7 +37,7 @@ fn input(n: u32) -> Input {
 // The next frame, with some input for each seat, or a new game where one is over.
 fn next(court: Court, frame: u32) -> Court {
     let score = court.state.score;
-    if score.left == 9 || score.right == 9 {
+    if score.left == LAST_POINT || score.right == LAST_POINT {
         Court::new()
     } else {
         court.frame(input(frame / 7), input(frame / 11))
@@ -30,11 +46,11 @@ fn next(court: Court, frame: u32) -> Court {
 
 fn pictures(count: u32, picture: &mut [u8]) -> u64 {
     let mut court = Court::new();
-    let mut sum: u64 = 0;
+    let mut sum = 0u64;
     for frame in 0..count {
         court = next(court, frame);
         let _ = draw(court, picture);
-        let at = frame as usize * 7919 % LENGTH;
+        let at = frame as usize * STRIDE % LENGTH;
         let byte = picture.get(at).copied().unwrap_or(0);
         sum = sum.wrapping_add(u64::from(byte));
     }
@@ -43,16 +59,16 @@ fn pictures(count: u32, picture: &mut [u8]) -> u64 {
 
 // Packet k: its number of inputs goes from 0 to 120 and begins anew.
 fn packets(count: u32, buffer: &mut [u8; MOST_LENGTH]) -> u64 {
-    let mut sum: u64 = 0;
+    let mut sum = 0u64;
     for k in 0..count {
-        let inputs = (k % 121) as u8;
-        buffer[5] = inputs;
-        buffer[6] = k.to_le_bytes()[0];
-        if let Ok(p) = Packet::read(&buffer[..10 + usize::from(inputs)], 1_000_000) {
+        let inputs = (k % (u32::from(MOST_INPUTS) + 1)) as u8;
+        buffer[COUNT_AT] = inputs;
+        buffer[ACK_AT] = k.to_le_bytes()[0];
+        if let Ok(packet) = Packet::read(&buffer[..INPUTS_AT + usize::from(inputs)], MADE) {
             sum = sum
-                .wrapping_add(u64::from(p.first))
-                .wrapping_add(u64::from(p.ack));
-            let last = p.inputs.last().copied().unwrap_or(0);
+                .wrapping_add(u64::from(packet.first))
+                .wrapping_add(u64::from(packet.ack));
+            let last = packet.inputs.last().copied().unwrap_or(0);
             sum = sum.wrapping_add(u64::from(last));
         }
     }
@@ -64,17 +80,18 @@ fn run(rt: &HostRuntime) -> anyhow::Result<()> {
     let (Some(what), Some(count), None) = (args.next(), args.next(), args.next()) else {
         bail!(USAGE);
     };
-    let count = count.as_str().parse::<u32>()?;
+    let count = count.parse::<u32>()?;
     let sum = match what.as_str() {
         "pictures" => {
             let mut picture = vec![in rt.alloc(); 0u8; LENGTH]?;
-            pictures(count, picture.as_mut_slice())
+            pictures(count, &mut picture)
         }
         "packets" => {
+            // Some packet; the upper halves of its two numbers of four bytes are 0.
             let mut buffer = [7u8; MOST_LENGTH];
             buffer[0] = b'H';
-            buffer[3..5].fill(0);
-            buffer[8..10].fill(0);
+            buffer[COUNT_AT - 2..COUNT_AT].fill(0);
+            buffer[INPUTS_AT - 2..INPUTS_AT].fill(0);
             packets(count, &mut buffer)
         }
         _ => bail!(USAGE),

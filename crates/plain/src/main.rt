@@ -6,7 +6,7 @@
 // With `show` the picture of that state follows, as text.
 #![tactic(auto)]
 
-use anyhow::{anyhow, bail};
+use anyhow::{Context, anyhow, bail};
 use court::{Court, State};
 use court_game::plain::{MOST_FRAMES, play_frames};
 use picture::{LENGTH, draw, text_of};
@@ -26,44 +26,45 @@ fn read_frames(rt: &HostRuntime, path: &str) -> io::Result<Vec<u8>> {
     Ok(frames)
 }
 
-fn print_state(rt: &HostRuntime, frames: usize, s: State) -> anyhow::Result<()> {
+fn print_state(rt: &HostRuntime, frames: usize, state: State) -> anyhow::Result<()> {
+    let State {
+        ball,
+        left,
+        right,
+        score,
+        wait,
+    } = state;
     print!(rt;
         "beat {frames} ball {} {} way {} {} ",
-        s.ball.x, s.ball.y, s.ball.dx, s.ball.dy
+        ball.x, ball.y, ball.dx, ball.dy
     )?;
-    print!(rt;
-        "bars {} {} {} {} ",
-        s.left.x, s.left.y, s.right.x, s.right.y
-    )?;
-    println!(rt; "points {} {} wait {}", s.score.left, s.score.right, s.wait)?;
+    print!(rt; "bars {} {} {} {} ", left.x, left.y, right.x, right.y)?;
+    println!(rt; "points {} {} wait {wait}", score.left, score.right)?;
     Ok(())
 }
 
 fn print_picture(rt: &HostRuntime, court: Court) -> anyhow::Result<()> {
     let mut picture = vec![in rt.alloc(); 0u8; LENGTH]?;
-    draw(court, picture.as_mut_slice()).map_err(|_| anyhow!("plain: no room for a picture"))?;
-    print!(rt; "{}", text_of(rt.alloc(), picture.as_slice())?)?;
+    draw(court, &mut picture).context("plain: no room for a picture")?;
+    print!(rt; "{}", text_of(rt.alloc(), &picture)?)?;
     Ok(())
 }
 
 // The file's name, and whether to show the picture.
 fn arguments(rt: &HostRuntime) -> anyhow::Result<(String, bool)> {
     let mut args = env::args(rt)?.skip(1);
-    let (path, word) = (args.next(), args.next());
-    let (Some(path), None) = (path, args.next()) else {
-        bail!(USAGE);
-    };
-    match word {
-        None => Ok((path, false)),
-        Some(word) if word.as_str() == "show" => Ok((path, true)),
-        Some(_) => bail!(USAGE),
+    let (path, word, rest) = (args.next(), args.next(), args.next());
+    match (path, word.as_deref(), rest) {
+        (Some(path), None, None) => Ok((path, false)),
+        (Some(path), Some("show"), None) => Ok((path, true)),
+        _ => bail!(USAGE),
     }
 }
 
 fn run(rt: &HostRuntime) -> anyhow::Result<()> {
     let (path, show) = arguments(rt)?;
-    let frames = read_frames(rt, path.as_str()).map_err(|e| anyhow!("plain: {path}: {e}"))?;
-    let court = play_frames(frames.as_slice()).map_err(|_| anyhow!(
+    let frames = read_frames(rt, &path).map_err(|e| anyhow!("plain: {path}: {e}"))?;
+    let court = play_frames(&frames).map_err(|_| anyhow!(
         "plain: {path}: more than {MOST_FRAMES} frames"
     ))?;
     print_state(rt, frames.len(), court.state)?;

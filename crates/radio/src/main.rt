@@ -7,10 +7,11 @@
 
 #![tactic(auto)]
 
-use anyhow::{anyhow, bail};
+use anyhow::{Context, bail};
 use court_game::plain::play;
 use exchange::moves::{Act, Move};
 use exchange::run::{Both, Played, Unplayed, play_moves};
+use exchange::tally::Tally;
 use game::seat::Seat;
 use peer::log::HALF;
 use peer::memory::{INPUTS, MOST_STATES};
@@ -22,8 +23,23 @@ use std::process::ExitCode;
 
 const USAGE: &str = "usage: radio SEED N TICKS LOSS TWICE DELAY ..";
 
+// How many numbers a row has.
+const NUMBERS: usize = 6;
+
 // Ticks of a good radio at the end.
 const GOOD: u64 = 150;
+
+// LOSS and TWICE are out of so many.
+const CHANCES: u64 = 256;
+
+// No packet comes sooner, in ticks.
+const SOONEST: u64 = 2;
+
+// An input is held for so many ticks, on average.
+const HELD: u64 = 8;
+
+// Inputs are the numbers below this one.
+const INPUTS_BELOW: u64 = 16;
 
 // One row of the command line.
 #[derive(Clone, Copy)]
@@ -54,17 +70,18 @@ impl TryFrom<&[u64]> for Options {
     }
 }
 
-// Numbers by the seed.
+// Numbers by the seed: each state is the one before times FACTOR, plus ADDED.
 #[derive(Drop)]
 struct Random(u64);
+
+const FACTOR: u64 = 6_364_136_223_846_793_005;
+
+const ADDED: u64 = 1_442_695_040_888_963_407;
 
 impl Random {
     // One of 0 up to a number, that one left out; 0 where there is none.
     fn below(&mut self, n: u64) -> u64 {
-        self.0 = self
-            .0
-            .wrapping_mul(6_364_136_223_846_793_005)
-            .wrapping_add(1_442_695_040_888_963_407);
+        self.0 = self.0.wrapping_mul(FACTOR).wrapping_add(ADDED);
         let high = self.0 >> 33;
         high.checked_rem(n).unwrap_or(0)
     }
@@ -99,19 +116,21 @@ impl Radio {
 
     // What the radio does with a packet that is sent when it is due: it is lost, or comes once or twice, each time after a delay of its own.
     fn send(&mut self, flight: Flight) -> Result<(), AllocError> {
-        let good = flight.due >= self.options.ticks;
-        let lost = self.random.below(256) < self.options.loss;
-        let twice = self.random.below(256) < self.options.twice;
+        let lost = self.random.below(CHANCES) < self.options.loss;
+        let twice = self.random.below(CHANCES) < self.options.twice;
         let most = self.options.delay.saturating_sub(1);
         let late = [self.random.below(most), self.random.below(most)];
-        let (delays, times) = match (good, lost, twice) {
-            (true, _, _) => ([0, 0], 1),
-            (false, true, _) => (late, 0),
-            (false, false, false) => (late, 1),
-            (false, false, true) => (late, 2),
+        let delays: &[u64] = if flight.due >= self.options.ticks {
+            &[0]
+        } else if lost {
+            &[]
+        } else if twice {
+            &late
+        } else {
+            &late[..1]
         };
-        for delay in delays.iter().take(times) {
-            let due = flight.due.saturating_add(2).saturating_add(*delay);
+        for delay in delays {
+            let due = flight.due.saturating_add(SOONEST).saturating_add(*delay);
             self.air.push(Flight { due, ..flight })?;
         }
         Ok(())
@@ -119,7 +138,7 @@ impl Radio {
 
     // The packets that come to a machine now.
     fn deliver(&mut self, tick: u64, seat: Seat) -> Result<(), AllocError> {
-        for flight in self.air.iter() {
+        for flight in &self.air {
             if flight.due == tick && flight.seat == seat {
                 let act = Act::Deliver(flight.number);
                 self.moves.push(Move { seat, act })?;
@@ -130,8 +149,8 @@ impl Radio {
 
     // One machine's tick: what comes, the tick, and its packet. An input is held for some ticks, as a crew holds a key.
     fn tick(&mut self, tick: u64, seat: Seat, held: u8) -> anyhow::Result<u8> {
-        let changes = self.random.below(8) == 0;
-        let next = u8::try_from(self.random.below(16))?;
+        let changes = self.random.below(HELD) == 0;
+        let next = u8::try_from(self.random.below(INPUTS_BELOW))?;
         let input = if changes { next } else { held };
         self.deliver(tick, seat)?;
         let act = Act::Tick(input);
@@ -158,7 +177,8 @@ fn make_moves(heap: Global, options: Options) -> anyhow::Result<Vec<Move>> {
     Ok(radio.moves)
 }
 
-// The memory that is lent to a machine.
+// The memory that is lent to a machine. `play` and `exchange_tests` have such a struct too: a library of two `vec!`s, with its
+// contract, edit and test, would be longer than all three.
 #[derive(Drop)]
 struct Memory {
     inputs: Vec<u8>,
@@ -176,18 +196,16 @@ impl Memory {
 
 // What a machine came to.
 fn print_side(rt: &HostRuntime, name: &str, side: Played, states: &[u8]) -> anyhow::Result<()> {
+    let Tally {
+        lost,
+        refused,
+        played,
+        again,
+    } = side.tally;
     match status(&side.peer, states) {
-        Ok(shown) => {
-            let tally = side.tally;
-            print!(rt;
-                "{name} beat {} sure {} points {} {} ",
-                shown.frames, shown.confirmed, shown.score.left, shown.score.right
-            )?;
-            println!(rt;
-                "lost {} refused {} played {} again {}",
-                tally.lost, tally.refused, tally.played, tally.again
-            )?;
-        }
+        Ok(status) => println!(rt;
+            "{name} {status} lost {lost} refused {refused} played {played} again {again}"
+        )?,
         Err(refused) => println!(rt; "{refused}")?,
     }
     Ok(())
@@ -213,7 +231,7 @@ fn compare(left: &[u8], right: &[u8], frames: usize) -> Result<(), usize> {
     if let Some(frame) = differs {
         return Err(frame);
     }
-    if play(at_left.0, at_left.1).state != play(at_right.0, at_right.1).state {
+    if play(at_left.0, at_left.1) != play(at_right.0, at_right.1) {
         return Err(frames);
     }
     Ok(())
@@ -241,12 +259,12 @@ fn run_one(rt: &HostRuntime, options: Options) -> anyhow::Result<()> {
     let both = match play_moves(
         rt.alloc(),
         options.window,
-        left.inputs.as_mut_slice(),
-        left.states.as_mut_slice(),
-        right.inputs.as_mut_slice(),
-        right.states.as_mut_slice(),
-        picture.as_slice(),
-        moves.as_slice(),
+        &mut left.inputs,
+        &mut left.states,
+        &mut right.inputs,
+        &mut right.states,
+        &picture,
+        &moves,
     ) {
         Ok(both) => both,
         Err(Unplayed::Refused(refused)) => {
@@ -255,19 +273,19 @@ fn run_one(rt: &HostRuntime, options: Options) -> anyhow::Result<()> {
         }
         Err(Unplayed::NoMemory) => bail!("radio: no memory"),
     };
-    print_side(rt, "left", both.left, left.states.as_slice())?;
-    print_side(rt, "right", both.right, right.states.as_slice())?;
-    print_agreement(rt, both, left.inputs.as_slice(), right.inputs.as_slice())
+    print_side(rt, "left", both.left, &left.states)?;
+    print_side(rt, "right", both.right, &right.states)?;
+    print_agreement(rt, both, &left.inputs, &right.inputs)
 }
 
 // The rows of the command line.
 fn rows(rt: &HostRuntime) -> anyhow::Result<Vec<Options>> {
     let mut words = Vec::new(rt.alloc());
     for word in env::args(rt)?.skip(1) {
-        words.push(word.as_str().parse::<u64>().map_err(|_| anyhow!(USAGE))?)?;
+        words.push(word.parse::<u64>().context(USAGE)?)?;
     }
     let mut rows = Vec::new(rt.alloc());
-    for row in words.as_slice().chunks(6) {
+    for row in words.chunks(NUMBERS) {
         rows.push(Options::try_from(row)?)?;
     }
     Ok(rows)
@@ -278,7 +296,7 @@ fn run(rt: &HostRuntime) -> anyhow::Result<()> {
     if rows.is_empty() {
         bail!(USAGE);
     }
-    for row in rows.iter() {
+    for row in &rows {
         run_one(rt, *row)?;
     }
     Ok(())
