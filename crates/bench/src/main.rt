@@ -29,7 +29,7 @@ const INPUTS_AT: usize = 10;
 // As many inputs as the reader has made.
 const MADE: u32 = 1_000_000;
 
-// Casts here lose nothing, which the check proves; no `From` narrows.
+// Casts here lose nothing, which the check proves, and there is no `From` for them.
 fn input(n: u32) -> Input {
     Input((n % 16) as u8)
 }

@@ -25,14 +25,14 @@ use rollback_session::calls::begin;
 use std::alloc::{AllocError, Global};
 
 // What a machine came to.
-#[derive(Clone, Copy)]
+#[derive(Clone, Copy, PartialEq, Eq, Debug)]
 pub struct Played {
     pub peer: Peer,
     pub tally: Tally,
 }
 
 // Both machines, after all moves.
-#[derive(Clone, Copy)]
+#[derive(Clone, Copy, PartialEq, Eq, Debug)]
 pub struct Both {
     pub left: Played,
     pub right: Played,

@@ -165,7 +165,7 @@ fn beginnings(rt: HostRuntime) -> Result<(), Fail> {
         let mut right = lend(&rt, states)?;
         let refused = Refused::from(refusal);
         let played = play_row(&rt, window, &mut left, &mut right, &[]);
-        assert_eq!(rt; played.err(), Some(Unplayed::Refused(refused)));
+        assert_eq!(rt; played, Err(Unplayed::Refused(refused)));
         assert_eq!(rt; (refused.number(), refused.place()), (5, place));
     }
     Ok(())

@@ -43,7 +43,7 @@ fn put_states(frames: &[u8], states: &mut [u8])
     ensures { states.new ≡ marks frames.now (length frames.now / 600) ++ drop (64 * (length frames.now / 600)) states.old }
 {
     let mut state = Court::new();
-    // By places, since the same holds of `chunks_exact_mut`.
+    // By places: of a slice that `chunks_exact_mut` lent a proof knows afterwards only the length.
     for (j, part) in frames.chunks_exact(EVERY).enumerate() {
         state = game::plain::play_frames(Held(state), part).0;
         let at = STATE_BYTES * j;
@@ -61,13 +61,13 @@ pub enum Unwritten {
 }
 
 // The frames of which a peer has both inputs.
-fn put_confirmed(p: &Peer, inputs: &[u8], frames: &mut [u8])
-    requires { (Long inputs.now) × (length frames.old ≡ min p.now.own p.now.other) }
-    ensures { frames.new ≡ (match_of p.now.seat p.now.window (log_of p.now inputs.now)).frames }
+fn put_confirmed(peer: &Peer, inputs: &[u8], frames: &mut [u8])
+    requires { (Long inputs.now) × (length frames.old ≡ min peer.now.own peer.now.other) }
+    ensures { frames.new ≡ (match_of peer.now.seat peer.now.window (log_of peer.now inputs.now)).frames }
 {
     let (own, other) = inputs.split_at(HALF);
     let count = frames.len();
-    let (left, right) = p.seat.in_order(&own[..count], &other[..count]);
+    let (left, right) = peer.seat.in_order(&own[..count], &other[..count]);
     put_frames(left, right, frames);
 }
 

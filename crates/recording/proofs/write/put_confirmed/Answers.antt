@@ -8,12 +8,12 @@ use Rattle.recording.proofs.write.put_confirmed.Goals as goal
 pub put_frames-requires : goal.put_frames-requires
 put_frames-requires c =
     let n = length c.args.frames.now in
-    let few = c.args.p.now.few in
-    ordered_long c.args.p.now.seat _ _ _ n (ordered_now c.args.p.now.seat _ _ c.in_order.result c.in_order.ensures) (length-take-le n _ (omega (arith, c.split_at.ensures.front_len, c.split_at.ensures.back_len))) (length-take-le n _ (omega (arith, c.split_at.ensures.front_len, c.split_at.ensures.back_len)))
+    let few = c.args.peer.now.few in
+    ordered_long c.args.peer.now.seat _ _ _ n (ordered_now c.args.peer.now.seat _ _ c.in_order.result c.in_order.ensures) (length-take-le n _ (omega (arith, c.split_at.ensures.front_len, c.split_at.ensures.back_len))) (length-take-le n _ (omega (arith, c.split_at.ensures.front_len, c.split_at.ensures.back_len)))
 
 pub returns : goal.returns
 returns c =
-    let p = c.args.p.now in
+    let p = c.args.peer.now in
     let xs = c.args.inputs.now in
     let n = length c.args.frames.now in
     let parts = c.in_order.result in
