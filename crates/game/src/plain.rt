@@ -29,6 +29,7 @@ pub fn play<G: Game>(left: &[u8], right: &[u8]) -> G
 
 // On from a state, by frames of one byte: seat 0's input and 16 times seat 1's. A loop of its own, since one function over an
 // iterator of pairs would be no shorter, and would need that every such iterator ends.
+#[tactic(auto, using(crate::proofs::Plays::frames_more, crate::proofs::Plays::frames_done))]
 pub fn play_frames<G: Game>(from: G, frames: &[u8]) -> G
     ensures { G.seen result ≡ plays G.rules.game (G.seen from) (map seat_0 frames.now) (map seat_1 frames.now) }
 {

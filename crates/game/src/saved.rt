@@ -7,6 +7,9 @@ use crate::rules::Game;
 // The bytes of a saved state.
 pub const STATE_BYTES: usize = 64;
 
+// The clauses below say the number.
+const _: () = prove!(STATE_BYTES == 64);
+
 pub trait SavedGame: Game {
     // A state as the game's own description has it. A member's type cannot name those of `Game`, so that description
     // is given once more, with the bytes of a state, and a law says that it is the same game.

@@ -12,6 +12,9 @@ use Rattle.packet.proofs.Checks.{Started, Ended, started, starts, ended, ends, f
 abbrev pub message_in : List ℕ → Message
 message_in xs = record { first = first_in xs; inputs = inputs_in xs; ack = ack_in xs }
 
+pub as_read : (xs : List ℕ) (f a : ℕ) (is : List ℕ) → f ≡ first_in xs → a ≡ ack_in xs → is ≡ inputs_in xs → ◌≡◌ {A = Message} (record { first = f; inputs = is; ack = a }) (message_in xs)
+as_read xs f a is e g h = cc
+
 -- ---- by the checks
 
 pub all_right : (own : ℕ) (xs : List ℕ) → start_checked xs ≡ Ok tt → rest_checked own xs ≡ Ok tt → reading own xs ≡ Ok (message_in xs)
@@ -72,20 +75,11 @@ module _ (own : ℕ) (m : Message) (small : own < 2 ^ 32) (h : Proper own m) whe
 
 pub written_read : WrittenRead
 written_read own m small h =
-    let mk : ℕ → List ℕ → ℕ → Result Message Fault = λ f is a. Ok (record { first = f; inputs = is; ack = a }) in
     let xs : List ℕ = message_bytes m in
     all_right own xs (starts xs (written_starts own m small h)) (ends own xs (written_ends own m small h))
-    ∙ ap (λ f. mk f (inputs_in xs) (ack_in xs)) (first_read own m small h)
-    ∙ ap (λ is. mk m.first is (ack_in xs)) (inputs_read own m small h)
-    ∙ ap (mk m.first m.inputs) (ack_read own m small h)
+    ∙ ap Ok (sym (as_read xs m.first m.ack m.inputs (sym (first_read own m small h)) (sym (ack_read own m small h)) (sym (inputs_read own m small h))))
 
 -- ---- what was taken
-
-ok_is_not_err : {f : Fault} {m : Message} → ◌≡◌ {A = Result Message Fault} (Err f) (Ok m) → ⊥
-ok_is_not_err e = let z : ◌≡◌ {A = ℕ} 0 1 = cc in omega arith
-
-ok_same : {m n : Message} → ◌≡◌ {A = Result Message Fault} (Ok m) (Ok n) → m ≡ n
-ok_same e = cc
 
 -- the checks of what is taken went well
 checked : (own : ℕ) (xs : List ℕ) (m : Message) → reading own xs ≡ Ok m → (start_checked xs ≡ Ok tt) × (rest_checked own xs ≡ Ok tt)
@@ -97,24 +91,22 @@ read_written own xs m b h =
     let k = checked own xs m h in
     let s : Started xs = started xs k.0 in
     let t : Ended own xs = ended own xs k.1 in
-    let e : message_in xs ≡ m = ok_same (sym (all_right own xs k.0 k.1) ∙ h) in
+    let r = all_right own xs k.0 k.1 in
+    let e : message_in xs ≡ m = cc in
     (ap message_bytes (sym e) ∙ read_back own xs b s t, subst (Proper own) e (read_proper own xs s t))
 
 pub one_at_most : OneAtMost
 one_at_most own m n small h k e =
-    ok_same (sym (written_read own m small h) ∙ ap (reading own) e ∙ written_read own n small k)
+    let r = written_read own m small h in
+    let s = written_read own n small k in
+    cc
 
 pub refused_exactly : RefusedExactly
 refused_exactly own xs small b = (
-  λ f e m h w. ok_is_not_err (sym e ∙ sym (ap (reading own) w) ∙ written_read own m small h),
+  λ f e m h w. let r = written_read own m small h in cc,
   λ none. by (reading own xs) refl none,
 )
   where
     by : (r : Result Message Fault) → reading own xs ≡ r → ((m : Message) → Proper own m → message_bytes m ≡ xs → ⊥) → is_err (reading own xs) ≡ true
     by (Ok m) e none = let p = read_written own xs m b e in absurd (none m p.1 p.0)
     by (Err f) e none = ap is_err e
-
--- ---- what the reader makes
-
-pub as_read : (xs : List ℕ) (f a : ℕ) (is : List ℕ) → f ≡ first_in xs → a ≡ ack_in xs → is ≡ inputs_in xs → ◌≡◌ {A = Message} (record { first = f; inputs = is; ack = a }) (message_in xs)
-as_read xs f a is e g h = cc

@@ -22,23 +22,20 @@ fn find_bad(inputs: &[u8]) -> Option<usize>
 fn read_start(packet: &[u8]) -> Result<(u32, u8), Fault>
     ensures { MatchResult result (λ r. (start_checked packet.now ≡ Ok tt) × (r.0 ≡ first_in packet.now) × (r.1 ≡ count_in packet.now)) (λ f. start_checked packet.now ≡ Err f) }
 {
-    let Some(mark) = packet.first() else {
-        return Err(Fault::CutShort(0));
-    };
-    if *mark != MARK {
+    let cut = Fault::CutShort(packet.len());
+    let mark = *packet.first().ok_or(cut)?;
+    if mark != MARK {
         return Err(Fault::NoMark);
     }
-    let Some(count) = packet.get(COUNT_AT) else {
-        return Err(Fault::CutShort(packet.len()));
-    };
+    let count = *packet.get(COUNT_AT).ok_or(cut)?;
     let first = u32::get(packet, FIRST_AT);
-    if u64::from(first) + u64::from(*count) > MOST_FRAMES as u64 {
+    if u64::from(first) + u64::from(count) > MOST_FRAMES as u64 {
         return Err(Fault::PastEnd);
     }
-    if *count > MOST_INPUTS {
+    if count > MOST_INPUTS {
         return Err(Fault::TooMany);
     }
-    Ok((first, *count))
+    Ok((first, count))
 }
 
 // The acknowledgement and the inputs, so many, of a packet whose start is right.

@@ -10,6 +10,7 @@ pub fn reads_what_was_written()
 {}
 
 // Of several faults the one at the lowest place is told.
+#[tactic(auto, using(crate::proofs::Lowest::lowest_told))]
 pub fn tells_the_lowest_fault()
     ensures { LowestTold }
 {}
