@@ -12,7 +12,7 @@ use Rattle.rollback_session.specs.declared.file.Events.{Events}
 use Rattle.rollback_session.specs.declared.refused.Refused.{Refused}
 use Rattle.rollback_session.specs.declared.refused.Refused.TheVariants as refused
 use Rattle.rollback_session.specs.Events.{event_of}
-use Rattle.rollback_session.specs.Following.{GivesEvent, StandsIn}
+use Rattle.rollback_session.specs.Following.{GivesEvent}
 use Rattle.rollback_session.specs.Files.{event_bytes, Sized, FileOf, StandsAt, NoEvent, FaultyAt, OneRow}
 
 -- ---- bytes that came, at a place
@@ -107,10 +107,7 @@ pub record ReadUpTo (file : List ℕ) (es : List Event) (at : ℕ) : Type 0 wher
   pub place_is : at ≡ length (flat_map event_bytes es)
   pub within : at ≤ length file
 
-pub read_none : (file : List ℕ) → ReadUpTo file [] 0
-read_none file = record { sized = tt; bytes_are = refl; place_is = refl; within = omega arith }
-
-pub read_more : (file : List ℕ) (es : List Event) (at : ℕ) (e : Event) (next : ℕ) → ReadUpTo file es at → StandsAt file at e next → ReadUpTo file (es ++ e ∷ []) next
+read_more : (file : List ℕ) (es : List Event) (at : ℕ) (e : Event) (next : ℕ) → ReadUpTo file es at → StandsAt file at e next → ReadUpTo file (es ++ e ∷ []) next
 read_more file es at e next r s =
     let more : flat_map event_bytes es ++ event_bytes e ≡ flat_map event_bytes (es ++ e ∷ []) = flat_map_more event_bytes [] es e in
     let long : length (flat_map event_bytes (es ++ e ∷ [])) ≡ length (flat_map event_bytes es) + length (event_bytes e) = ap length (sym more) ∙ length-append (flat_map event_bytes es) (event_bytes e) in
@@ -121,11 +118,11 @@ read_more file es at e next r s =
       within = s.within;
     }
 
-pub read_all : (file : List ℕ) (es : List Event) (at : ℕ) → ReadUpTo file es at → length file ≤ at → FileOf es file
+read_all : (file : List ℕ) (es : List Event) (at : ℕ) → ReadUpTo file es at → length file ≤ at → FileOf es file
 read_all file es at r h =
     record { sized = r.sized; bytes_are = r.bytes_are ∙ ap (λ zs. flat_map event_bytes es ++ zs) (drop_all at file h) ∙ append-nil (flat_map event_bytes es) }
 
-pub read_broken : (file : List ℕ) (es : List Event) (at : ℕ) → ReadUpTo file es at → at < length file → NoEvent (drop at file) → FaultyAt file at
+read_broken : (file : List ℕ) (es : List Event) (at : ℕ) → ReadUpTo file es at → at < length file → NoEvent (drop at file) → FaultyAt file at
 read_broken file es at r h none =
     record {
       before = es;
@@ -149,10 +146,6 @@ pub record Given (file : List ℕ) (es : List Event) (events : Events) : Type 0 
   pub file_is : events.file.now ≡ file
   pub read : ReadUpTo file es events.at
   pub few : length es ≤ events.at
-
-pub given_none : (file : List ℕ) (s : Events) → StandsIn file 0 s → Given file [] s
-given_none file s h =
-    record { file_is = h.file_is; read = rw h.at_is (read_none file); few = omega arith }
 
 pub given_more : (file : List ℕ) (es : List Event) (s t : Events) (h : Happening) → GivesEvent s (Some (Ok h)) t → Given file es s → Given file (es ++ event_of h ∷ []) t
 given_more file es s t h gives g =

@@ -66,11 +66,13 @@ pub fn begin(
 }
 
 // Carries an event out.
+#[tactic(auto, unfolding(rollback::specs::Said::said_tick))]
 fn carry_out(p: &mut Peer, inputs: &mut [u8], states: &mut [u8], event: Happening) -> Outcome
     ensures answer { result ≡ said is_input p.old.window (length inputs.old) (length states.old) (log_of p.old inputs.old) (event_of event.entry) }
     ensures happens { Happened court_saved p.old inputs.old states.old (event_of event.entry) p.new inputs.new states.new }
     ensures idle { ((n : ℕ) → result ≢ Taken n) → (p.new ≡ p.old) × (inputs.new ≡ inputs.old) × (states.new ≡ states.old) }
     ensures few { (n : ℕ) → result ≡ Taken n → n ≤ p.old.window }
+    ensures long { writes (event_of event.entry) result ≡ true → Long inputs.new }
 {
     match event {
         Happening::Tick(input) => tick::<Held>(p, inputs, states, input),

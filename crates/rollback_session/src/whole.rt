@@ -46,6 +46,6 @@ pub fn play_session(
     let row = Row::of(file)?;
     let mut p = begin(seat, window, inputs, states, picture)?;
     happen_all(&mut p, inputs, states, row);
-    let _ = draw(&p, states, picture);
+    draw(&p, states, picture).unwrap();
     Ok(p)
 }

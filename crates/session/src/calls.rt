@@ -1,5 +1,5 @@
 // One call for each event, and what the peer then shows and sends, of the court's game.
-ghost use Rattle.std.specs.Prelude.{◌≡◌, ◌++◌, length, drop, IfOk, if◌then◌else◌, ◌≢◌, nat_le, nat_lt};
+ghost use Rattle.std.specs.Prelude.{◌≡◌, ◌++◌, true, length, drop, is_err, IfOk, OnOk, ◌≢◌, nat_le};
 ghost use Rattle.court_game.specs.Games.{court_game, is_input};
 ghost use Rattle.peer.specs.Lent.{Begun, Happened, log_of};
 ghost use Rattle.peer.specs.Said.{begin_checked};
@@ -53,7 +53,8 @@ pub fn happen(p: &mut Peer, inputs: &mut [u8], event: Happening) -> Outcome
 // Nothing else changes.
 pub fn draw(p: &Peer, inputs: &[u8], picture: &mut [u8]) -> Result<(), Refused>
     ensures answer { result ≡ said_drawn (length inputs.now) (length picture.old) }
-    ensures picture { picture.new ≡ (if nat_lt (length inputs.now) 2000000 then picture.old else (if nat_lt (length picture.old) 19200 then picture.old else picture_of (shows court_game p.now.seat (log_of p.now inputs.now)) ++ drop 19200 picture.old)) }
+    ensures idle { is_err result ≡ true → picture.new ≡ picture.old }
+    ensures drawn { OnOk result (picture.new ≡ picture_of (shows court_game p.now.seat (log_of p.now inputs.now)) ++ drop 19200 picture.old) }
 {
     let held: Held = shown(p, inputs)?;
     Ok(picture::draw(held.0, picture)?)

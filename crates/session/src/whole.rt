@@ -15,6 +15,7 @@ use peer::Peer;
 use rollback_session::{Happening, Refused};
 
 // A row of events, right and wrong.
+#[tactic(auto, unfolding(peer::specs::Peers::run))]
 fn happen_all(p: &mut Peer, inputs: &mut [u8], events: &[Happening])
     requires { Long inputs.old }
     ensures { StandsFor p.old.seat p.old.window (run is_input p.old.window (log_of p.old inputs.old) (map event_of events.now)) (record { peer = p.new; inputs = inputs.new }) }
@@ -26,6 +27,7 @@ fn happen_all(p: &mut Peer, inputs: &mut [u8], events: &[Happening])
 
 // A session from its beginning: all events, and then the picture of what the peer shows. Whatever the events were, right and wrong,
 // that is the picture of the plain game with the inputs that the peer has, those of the other's that have not come predicted.
+#[tactic(auto, unfolding(peer::specs::Said::begin_checked))]
 pub fn play_session(
     seat: Seat,
     window: usize,

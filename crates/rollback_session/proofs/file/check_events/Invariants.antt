@@ -5,6 +5,8 @@ use Rattle.rollback_session.proofs.file.check_events.Given as goal
 
 abbrev pub invariant-loop-event : goal.invariant-loop-event
 invariant-loop-event l =
-    (goal.iterator-loop-event).can_next l.event-iterator
-    × (goal.iterator-loop-event).is_finite l.event-iterator
-    × ((es : List Event) × Given l.file es l.event-iterator × (l.count ≡ length es))
+    record {
+      can_next : (goal.iterator-loop-event).can_next l.event-iterator;
+      is_finite : (goal.iterator-loop-event).is_finite l.event-iterator;
+      read : (es : List Event) × Given l.file es l.event-iterator × (l.count ≡ length es);
+    }

@@ -7,7 +7,9 @@ use Rattle.rollback_session.proofs.whole.happen_all.Given as goal
 
 abbrev pub invariant-loop-event : goal.invariant-loop-event
 invariant-loop-event l =
-    (goal.iterator-loop-event).can_next l.event-iterator
-    × (goal.iterator-loop-event).is_finite l.event-iterator
-    × ((es : List Event) × Given l.row.file.now es l.event-iterator
-    × ((seat : Seat) (window : ℕ) (before : List Event) → After seat window before (memory l.initial.p l.initial.inputs l.initial.states) → After seat window (before ++ es) (memory l.p l.inputs l.states)))
+    record {
+      can_next : (goal.iterator-loop-event).can_next l.event-iterator;
+      is_finite : (goal.iterator-loop-event).is_finite l.event-iterator;
+      read : (es : List Event) × Given l.row.file.now es l.event-iterator
+          × ((seat : Seat) (window : ℕ) (before : List Event) → After seat window before (memory l.initial.p l.initial.inputs l.initial.states) → After seat window (before ++ es) (memory l.p l.inputs l.states));
+    }

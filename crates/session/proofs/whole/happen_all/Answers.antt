@@ -1,16 +1,12 @@
-use Rattle.std.proofs.Common.{leb, sym, refl, subst}
+use Rattle.std.proofs.Common.{leb, sym, subst}
 use Rattle.peer.specs.Lent.{log_of}
-use Rattle.peer.specs.Peers.{Log, run}
+use Rattle.peer.specs.Peers.{Log}
 use Rattle.peer.specs.Rows.{Memory, StandsFor}
 use Rattle.peer.proofs.Rowed.{stands_more}
 use Rattle.rollback_session.specs.declared.event.Happening.TheVariants.{Tick}
 use Rattle.rollback_session.specs.Events.{event_of}
 use Rattle.session.proofs.Rowed.{run_more}
 use Rattle.session.proofs.whole.happen_all.Goals as goal
-
-pub loop-event-init : goal.loop-event-init
-unfolding run
-loop-event-init c = record { seat_is = refl; window_is = refl; long = c.requires; log_is = refl }
 
 pub loop-event-preserved : goal.loop-event-preserved
 loop-event-preserved c =
