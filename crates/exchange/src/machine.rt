@@ -27,6 +27,7 @@ pub struct Machine<'a> {
 
 impl<'a> Machine<'a> {
     // A frame's time, and the packet that is then written.
+    // `deliver` calls `happen` in the same way: a function for both would have to repeat all that `happen` ensures.
     pub fn tick(&mut self, input: u8, sent: &mut Vec<Vec<u8>>) -> Result<Outcome, AllocError>
         ensures at { OnOk result ((window : ℕ) (n : Network) (seat : At) → PeerAt window n seat (memory_of self.old) → PacketsAt n (facing seat) sent.old.items → PeerAt window (acted window n seat (Tick input)) seat (memory_of self.new) × PacketsAt (acted window n seat (Tick input)) (facing seat) sent.new.items) }
         ensures tally { IfOk result (λ o. self.new.tally ≡ counted_by (Tick input) o self.old.tally) }

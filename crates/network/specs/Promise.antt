@@ -86,15 +86,19 @@ SixtyIsMost = BothSureAt 61 → ⊥
 
 -- ---- one peer, whatever bytes come to it
 
--- frames that are confirmed stay confirmed, with the same inputs and the same states
-abbrev pub StaysSure : Type 0 → Type 0
-StaysSure S =
-    (g : Game S) (seat : Seat) (fits : ℕ → Bool) (window : ℕ) (log : Log) (es : List Event) →
-    let to : Log = run fits window log es in
+-- frames that are confirmed in a log are confirmed in another, with the same inputs and the same states
+abbrev pub Stays : {S : Type 0} → Game S → Seat → Log → Log → Type 0
+Stays g seat log to =
     (confirmed log ≤ confirmed to)
     × Begins log.own to.own
     × Begins log.other to.other
     × ((k : ℕ) → k ≤ confirmed log → confirmed_at g seat log k ≡ confirmed_at g seat to k)
+
+-- frames that are confirmed stay confirmed
+abbrev pub StaysSure : Type 0 → Type 0
+StaysSure S =
+    (g : Game S) (seat : Seat) (fits : ℕ → Bool) (window : ℕ) (log : Log) (es : List Event) →
+    Stays g seat log (run fits window log es)
 
 -- where the predictions were right, nothing that is shown changes
 abbrev pub Guessed : Type 0 → Type 0

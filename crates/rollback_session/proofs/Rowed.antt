@@ -2,6 +2,11 @@
 use Rattle.std.proofs.Common.{◌≡◌, ℕ, Bool, leb, List, [], ◌∷◌, ◌++◌, sym, refl, subst}
 use Rattle.court_game.specs.Saved.{court_saved}
 use Rattle.game.specs.declared.seat.Seat.{Seat}
+use Rattle.court_game.specs.Games.{court_game}
+use Rattle.court.specs.declared.state.State.{State}
+use Rattle.network.specs.Promise.{Stays}
+use Rattle.network.proofs.OnePeer.{stays_sure}
+use Rattle.peer.specs.Lent.{log_of}
 use Rattle.peer.specs.Peers.{Log, Event, event, new_log, run}
 use Rattle.rollback.specs.Rows.{Memory, StandsFor}
 use Rattle.rollback.specs.Saved.{Begun, Happened}
@@ -21,3 +26,13 @@ pub after_more : (seat : Seat) (window : ℕ) (es : List Event) (e : Event) (m n
 after_more seat window es e m n h a =
     let P : Log → Type 0 = λ log. StandsFor court_saved seat window log n in
     subst P (sym (run_push (λ b. leb b 15) window new_log es e)) (stands_more court_saved seat window (log_after window es) m n e a h)
+
+-- what was confirmed stays so
+pub stays_on : (seat : Seat) (window : ℕ) (es : List Event) (e : Event) (m n : Memory) → Happened court_saved m.peer m.inputs m.states e n.peer n.inputs n.states → After seat window es m → Stays court_game seat (log_of m.peer m.inputs) (log_of n.peer n.inputs)
+unfolding run
+stays_on seat window es e m n h a =
+    let P : Log → Log → Type 0 = λ log to. Stays court_game seat log to in
+    let log : Log = log_after window es in
+    let s : P log (event (λ b. leb b 15) window log e) = stays_sure State court_game seat (λ b. leb b 15) window log (e ∷ []) in
+    let b : StandsFor court_saved seat window (event (λ b. leb b 15) window log e) n = stands_more court_saved seat window log m n e a h in
+    subst (λ l. P l (log_of n.peer n.inputs)) (sym a.log_is) (subst (P log) (sym b.log_is) s)

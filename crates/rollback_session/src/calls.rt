@@ -6,10 +6,12 @@ ghost use Rattle.game.specs.declared.seat.Seat.{Seat as At};
 ghost use Rattle.packet.specs.Wire.{message_length};
 ghost use Rattle.peer.specs.Lent.{Long, LongStates, log_of};
 ghost use Rattle.peer.specs.Said.{begin_checked};
-ghost use Rattle.peer.specs.Peers.{Event, shows, sends};
+ghost use Rattle.network.specs.Promise.{Stays};
+ghost use Rattle.peer.specs.Peers.{Event, Log, arrival, predicted, shows, sends};
 ghost use Rattle.rollback.specs.declared.outcome.Outcome.TheVariants.{Taken};
 ghost use Rattle.peer.specs.declared.outcome.Refusal.TheVariants.{States};
 ghost use Rattle.picture.specs.Picture.{picture_of};
+ghost use Rattle.rollback.specs.Rows.{StandsFor};
 ghost use Rattle.rollback.specs.Saved.{Behind, Happened};
 ghost use Rattle.rollback_session.specs.Events.{event_of, said, writes, sent, packet_over};
 ghost use Rattle.rollback_session.specs.Standing.{status_of};
@@ -29,7 +31,7 @@ use rollback::Outcome;
 use rollback::events::{receive, tick};
 use rollback::shown::shown;
 
-// As many bytes as a packet has at most.
+// As many bytes as a packet has at most, named here for callers, who need not know `packet`.
 pub const PACKET_LENGTH: usize = MOST_LENGTH;
 
 // Whether a session may begin, or why not: the window, the lent inputs, states or picture.
@@ -73,6 +75,7 @@ fn carry_out(p: &mut Peer, inputs: &mut [u8], states: &mut [u8], event: Happenin
     ensures idle { ((n : ℕ) → result ≢ Taken n) → (p.new ≡ p.old) × (inputs.new ≡ inputs.old) × (states.new ≡ states.old) }
     ensures few { (n : ℕ) → result ≡ Taken n → n ≤ p.old.window }
     ensures long { writes (event_of event.entry) result ≡ true → Long inputs.new }
+    ensures guessed { (xs : List ℕ) → event_of event.entry ≡ arrival xs → predicted (log_of p.old inputs.old) ≡ predicted (log_of p.new inputs.new) → ((n : ℕ) → result ≡ Taken n → n ≡ 0) × (states.new ≡ states.old) }
 {
     match event {
         Happening::Tick(input) => tick::<Held>(p, inputs, states, input),
@@ -111,7 +114,9 @@ pub fn happen(
     ensures happens { Happened court_saved p.old inputs.old states.old (event_of event.entry) p.new inputs.new states.new }
     ensures row { (seat : At) (window : ℕ) (es : List Event) → After seat window es (memory p.old inputs.old states.old) → After seat window (es ++ event_of event.entry ∷ []) (memory p.new inputs.new states.new) }
     ensures idle { ((n : ℕ) → result.outcome ≢ Taken n) → (p.new ≡ p.old) × (inputs.new ≡ inputs.old) × (states.new ≡ states.old) }
+    ensures stays { (seat : At) (window : ℕ) (es : List Event) → After seat window es (memory p.old inputs.old states.old) → Stays court_game seat (log_of p.old inputs.old) (log_of p.new inputs.new) }
     ensures few { (n : ℕ) → result.outcome ≡ Taken n → n ≤ p.old.window }
+    ensures guessed { (xs : List ℕ) → event_of event.entry ≡ arrival xs → predicted (log_of p.old inputs.old) ≡ predicted (log_of p.new inputs.new) → ((n : ℕ) → result.outcome ≡ Taken n → n ≡ 0) × (states.new ≡ states.old) }
     ensures sent { result.sent ≡ sent (writes (event_of event.entry) result.outcome) (sends (log_of p.new inputs.new)) }
     ensures packet { out.new ≡ packet_over (writes (event_of event.entry) result.outcome) (sends (log_of p.new inputs.new)) out.old }
 {
@@ -130,6 +135,7 @@ pub fn draw(p: &Peer, states: &[u8], picture: &mut [u8]) -> Result<(), Refused>
     ensures answer { result ≡ said_drawn p.now.window (length states.now) (length picture.old) }
     ensures behind { drop 19200 picture.new ≡ drop 19200 picture.old }
     ensures idle { is_err result ≡ true → picture.new ≡ picture.old }
+    ensures stands { (seat : At) (window : ℕ) (log : Log) (inputs : List ℕ) → StandsFor court_saved seat window log (memory p.now inputs states.now) → is_ok result ≡ true → picture.new ≡ picture_of (shows court_game seat log) ++ drop 19200 picture.old }
     ensures row { (seat : At) (window : ℕ) (es : List Event) (inputs : List ℕ) → After seat window es (memory p.now inputs states.now) → is_ok result ≡ true → picture.new ≡ picture_of (shows court_game seat (log_after window es)) ++ drop 19200 picture.old }
 {
     let held: Held = shown(p, states)?;

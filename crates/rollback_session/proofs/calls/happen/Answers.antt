@@ -1,4 +1,4 @@
-use Rattle.rollback_session.proofs.Rowed.{after_more}
+use Rattle.rollback_session.proofs.Rowed.{after_more, stays_on}
 use Rattle.rollback_session.proofs.calls.happen.Goals as goal
 
 pub returns-then-is_told-clause-row : goal.returns-then-is_told-clause-row
@@ -6,3 +6,9 @@ returns-then-is_told-clause-row c = λ seat window es. after_more seat window es
 
 pub returns-else-is_told-clause-row : goal.returns-else-is_told-clause-row
 returns-else-is_told-clause-row c = λ seat window es. after_more seat window es _ _ _ c.carry_out-outcome.ensures.happens
+
+pub returns-then-is_told-clause-stays : goal.returns-then-is_told-clause-stays
+returns-then-is_told-clause-stays c = λ seat window es. stays_on seat window es _ _ _ c.carry_out-outcome.ensures.happens
+
+pub returns-else-is_told-clause-stays : goal.returns-else-is_told-clause-stays
+returns-else-is_told-clause-stays c = λ seat window es. stays_on seat window es _ _ _ c.carry_out-outcome.ensures.happens
