@@ -1,6 +1,6 @@
 // A session at one machine as a program: carries out the events of a file, one after the other, and prints what each came to.
 //
-//     play SEAT N FILE [show] [letters OUT]
+//     play SEAT N FILE [show] [letters OUT] [record OUT]
 //
 // SEAT is 0 or 1, N the window, 1 to 60. FILE has events: 0 and an input, or 1, a packet's length in two bytes and its bytes.
 // With `show` the picture follows each line; with `letters` the packets that this peer sends are written to OUT, as events of
@@ -13,6 +13,8 @@ use game::seat::Seat;
 use peer::Peer;
 use peer::memory::{INPUTS, MOST_STATES};
 use picture::{LENGTH, text_of};
+use recording::layout::length_of;
+use recording::write::write;
 use rollback::Outcome;
 use rollback_session::Refused;
 use rollback_session::calls::{PACKET_LENGTH, begin, check_lent, draw, happen, status};
@@ -22,7 +24,7 @@ use std::alloc::{AllocError, Global};
 use std::process::ExitCode;
 use std::{env, fs, io};
 
-const USAGE: &str = "usage: play SEAT N FILE [show] [letters OUT]";
+const USAGE: &str = "usage: play SEAT N FILE [show] [letters OUT] [record OUT]";
 
 // What the command line asks for.
 #[derive(Drop)]
@@ -32,6 +34,7 @@ struct Options {
     file: String,
     show: bool,
     letters: Option<String>,
+    record: Option<String>,
 }
 
 fn seat_of(word: &str) -> Option<Seat> {
@@ -52,11 +55,13 @@ fn options_of(mut words: env::Args) -> Option<Options> {
         file,
         show: false,
         letters: None,
+        record: None,
     };
     while let Some(word) = words.next() {
         match word.as_str() {
             "show" => options.show = true,
             "letters" => options.letters = Some(words.next()?),
+            "record" => options.record = Some(words.next()?),
             _ => return None,
         }
     }
@@ -159,6 +164,13 @@ fn play(
     Ok(letters)
 }
 
+// The recording of what the peer is sure of.
+fn recording_of(heap: Global, p: &Peer, inputs: &[u8]) -> anyhow::Result<Vec<u8>> {
+    let mut bytes = vec![in heap; 0u8; length_of(p)]?;
+    write(p, inputs, &mut bytes).map_err(|_| anyhow!("play: no room for a recording"))?;
+    Ok(bytes)
+}
+
 fn at_file(path: &str, error: io::Error) -> anyhow::Error {
     anyhow!("play: {path}: {error}")
 }
@@ -178,6 +190,10 @@ fn run(rt: &HostRuntime) -> anyhow::Result<ExitCode> {
     let letters = play(rt, &mut p, &mut memory, row, options.show)?;
     if let Some(out) = &options.letters {
         fs::write(rt, out, &letters).map_err(|e| at_file(out, e))?;
+    }
+    if let Some(out) = &options.record {
+        let bytes = recording_of(rt.alloc(), &p, &memory.inputs)?;
+        fs::write(rt, out, &bytes).map_err(|e| at_file(out, e))?;
     }
     Ok(ExitCode::SUCCESS)
 }

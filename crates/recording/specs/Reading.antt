@@ -1,6 +1,7 @@
 -- How bytes are read as a recording or refused. Assumes nothing: these are definitions.
-use Rattle.std.specs.Prelude.{◌≡◌, ℕ, ◌+◌, ◌/◌, ◌<◌, ◌≤◌, cond, not, ◌||◌, List, [], ◌∷◌, length, drop, position, Option, Some, None, Ok, Err, Result, MatchResult, ◌==◌, nat_lt, slice_index}
+use Rattle.std.specs.Prelude.{◌≡◌, ℕ, ◌+◌, ◌/◌, ◌<◌, ◌≤◌, cond, not, ◌||◌, List, [], ◌∷◌, ◌++◌, length, drop, position, codes, Option, Some, None, Ok, Err, Result, MatchResult, ◌==◌, nat_lt, slice_index}
 use Rattle.std.specs.List.{zip}
+use Rattle.std.specs.Fmt.{decimal}
 use Rattle.std.specs.Result.{result_and}
 use Rattle.byte_numbers.specs.Little.{number_of, part}
 use Rattle.recording.specs.declared.fault.Fault.{Fault}
@@ -16,6 +17,10 @@ fault_place Window = 3
 fault_place TooMany = 4
 fault_place (WrongState at) = at
 fault_place (TooLong at) = at
+
+-- as people are told: "refused 6 at 9"
+abbrev pub fault_text : Fault → List ℕ
+fault_text f = codes "refused " ++ decimal 6 ++ codes " at " ++ decimal (fault_place f)
 
 -- ---- fields
 

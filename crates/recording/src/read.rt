@@ -42,9 +42,7 @@ fn split_parts(bytes: &[u8]) -> Result<Recording<'_>, Fault>
     }
     let cut = Fault::CutShort(bytes.len());
     let window = *bytes.get(WINDOW_AT).ok_or(cut)?;
-    if check_window(usize::from(window)).is_err() {
-        return Err(Fault::Window);
-    }
+    check_window(usize::from(window)).map_err(|_| Fault::Window)?;
     if bytes.len() < FRAMES_AT {
         return Err(cut);
     }
@@ -68,6 +66,7 @@ impl<'a> Recording<'a> {
     {
         let mut state = Court::new();
         let parts = self.frames.chunks_exact(EVERY);
+        // By the state's number, since `chunks` tells no place.
         for (j, (part, saved)) in parts.zip(self.states.chunks(STATE_BYTES)).enumerate() {
             state = game::plain::play_frames(Held(state), part).0;
             if let Some(at) = first_difference(saved, &bytes_of(state)) {

@@ -14,7 +14,7 @@ use court_game::snapshot::save_state;
 use game::saved::STATE_BYTES;
 use peer::Peer;
 use peer::log::HALF;
-use peer::memory::INPUTS;
+use peer::memory::check_inputs;
 
 // The fields before the frames.
 fn put_head(out: &mut [u8], window: u8, count: u32)
@@ -78,9 +78,7 @@ pub fn write(p: &Peer, inputs: &[u8], out: &mut [u8]) -> Result<usize, Unwritten
     ensures answer { result ≡ writing (length inputs.now) (confirmed (log_of p.now inputs.now)) (length out.old) }
     ensures bytes { out.new ≡ written_over (length inputs.now) (match_of p.now.seat p.now.window (log_of p.now inputs.now)) out.old }
 {
-    if inputs.len() < INPUTS {
-        return Err(Unwritten::Inputs);
-    }
+    check_inputs(inputs).map_err(|_| Unwritten::Inputs)?;
     let count = p.confirmed();
     let end = length_by(count);
     if out.len() < end {

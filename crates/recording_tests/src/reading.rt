@@ -1,9 +1,10 @@
 // Bytes as recordings, and what is shown of them.
-use crate::writing::{ahead, fill};
+use crate::writing::{ahead, fill, level};
 use court::state::Score;
 use game::seat::Seat;
 use peer::memory::INPUTS;
 use picture::LENGTH;
+use recording::layout::length_of;
 use recording::show::{Shown, Unshown, show};
 use recording::write::write;
 use recording::{Fault, Recording};
@@ -65,5 +66,70 @@ fn shows(rt: HostRuntime) -> Result<(), Fail> {
         show(&bytes, 0, &mut picture),
         Err(Unshown::Recording(Fault::WrongState(610)))
     );
+    Ok(())
+}
+
+// What people are told of a fault.
+#[test]
+fn text(rt: HostRuntime) -> Result<(), Fail> {
+    let text = format!(in rt.alloc(); "{}", Fault::WrongState(1_234))?;
+    assert_eq!(rt; text.as_str(), "refused 6 at 1234");
+    Ok(())
+}
+
+// Recordings of some lengths: each is taken, and shows its last frame and none behind it.
+#[test]
+fn lengths(rt: HostRuntime) -> Result<(), Fail> {
+    let mut inputs = vec![in rt.alloc(); 0u8; INPUTS]?;
+    fill(&rt, &mut inputs);
+    let mut picture = vec![in rt.alloc(); 7u8; LENGTH]?;
+    for (frames, length) in [
+        (0, 8),
+        (1, 9),
+        (599, 607),
+        (600, 672),
+        (601, 673),
+        (1_200, 1_336),
+        (1_000_000, 1_106_632),
+    ] {
+        let peer = level(frames);
+        assert_eq!(rt; length_of(&peer), length);
+        let mut bytes = vec![in rt.alloc(); 0u8; length]?;
+        assert_eq!(rt; write(&peer, &inputs, &mut bytes), Ok(length));
+        let shown = show(&bytes, frames, &mut picture).map(|shown| shown.frames);
+        assert_eq!(rt; shown, Ok(frames));
+        let beyond = show(&bytes, frames.saturating_add(1), &mut picture);
+        assert_eq!(rt; beyond, Err(Unshown::Beyond(frames)));
+    }
+    Ok(())
+}
+
+// One byte of a recording of 601 frames that is another: in the mark, the window, the count, a frame before the saved state, and the
+// state. Where a fault is told was worked out by another implementation. The last frame is behind the state, so any byte is right there.
+#[test]
+fn damaged(rt: HostRuntime) -> Result<(), Fail> {
+    let mut inputs = vec![in rt.alloc(); 0u8; INPUTS]?;
+    fill(&rt, &mut inputs);
+    let mut bytes = [0u8; 673];
+    assert_eq!(rt; write(&level(601), &inputs, &mut bytes), Ok(673));
+    for (at, byte, fault) in [
+        (0, b'S', Some(Fault::NoMark(0))),
+        (2, 0, Some(Fault::NoMark(2))),
+        (3, 0, Some(Fault::Window)),
+        (3, 61, Some(Fault::Window)),
+        (4, 88, Some(Fault::WrongState(608))),
+        (6, 16, Some(Fault::TooMany)),
+        (108, 229, Some(Fault::WrongState(609))),
+        (607, 70, Some(Fault::WrongState(626))),
+        (608, 89, None),
+        (609, 1, Some(Fault::WrongState(609))),
+        (640, 1, Some(Fault::WrongState(640))),
+        (672, 1, Some(Fault::WrongState(672))),
+    ] {
+        let mut other = bytes;
+        assert!(rt; at < other.len());
+        other[at] = byte;
+        assert_eq!(rt; Recording::read(&other).err(), fault);
+    }
     Ok(())
 }

@@ -1,6 +1,7 @@
 // Recordings of what a peer is sure of. The state was worked out by another implementation of the rules.
 ghost use Rattle.std.specs.Prelude.{◌<◌};
 
+use game::plain::MOST_FRAMES;
 use game::saved::STATE_BYTES;
 use game::seat::Seat;
 use peer::Peer;
@@ -18,7 +19,7 @@ const AFTER_600: [u8; STATE_BYTES] = [
     0, 0, 0, 0, 0, 0,
 ];
 
-// Frames of which there are inputs: more than any test records.
+// Frames of which there are inputs; behind them all are 0.
 const FILLED: usize = 700;
 
 // Seat 0 goes through all inputs one by one, seat 1 seven frames each.
@@ -41,6 +42,18 @@ pub(crate) fn ahead(seat: Seat, other: usize) -> Peer
         window: 5,
         own: other + 1,
         other,
+        acked: 0,
+    }
+}
+
+// A peer that has all inputs of so many frames, of both seats.
+pub(crate) fn level(frames: usize) -> Peer {
+    let made = frames.min(MOST_FRAMES);
+    Peer {
+        seat: Seat::Left,
+        window: 5,
+        own: made,
+        other: made,
         acked: 0,
     }
 }

@@ -1,5 +1,5 @@
-use Rattle.std.proofs.Common.{◌≡◌, length, refl, ap, ◌∙◌, inl, inr, arith, length-set}
-use Rattle.std.specs.Iterator.Adapters.{enumerate_source, enumerate_count, zip_first, zip_second}
+use Rattle.std.proofs.Common.{◌≡◌, length, ap, inl, inr, arith, length-set}
+use Rattle.std.specs.Iterator.Adapters.{enumerate_source, enumerate_count, zip_first}
 use Rattle.std.specs.Slice.Iter.{iter_rest}
 use Rattle.recording.specs.Matches.{frame_byte}
 use Rattle.recording.proofs.Frames.{put_next, put_last}

@@ -1,4 +1,4 @@
-use Rattle.std.proofs.Common.{◌≡◌, ◌*◌, ◌/◌, false, ltb, ◌++◌, length, drop, sym, ap, ◌∙◌, arith, le-ltb}
+use Rattle.std.proofs.Common.{◌≡◌, ◌≤◌, ◌*◌, ◌/◌, false, ltb, ◌++◌, length, drop, sym, ap, ◌∙◌, arith, rules, le-ltb}
 use Rattle.peer.specs.Lent.{log_of}
 use Rattle.recording.specs.Matches.{marks, match_of, match_bytes, match_length}
 use Rattle.recording.proofs.Whole.{written_whole, frames_long}
@@ -11,9 +11,10 @@ returns-clause-bytes c =
     let out = c.args.out.now in
     let m = match_of p.seat p.window (log_of p xs) in
     let n = c.confirmed-count.result in
-    let many : length m.frames ≡ n = frames_long p xs c.if-inputs-lt-INPUTS.false ∙ sym c.confirmed-count.ensures in
+    let long : 2000000 ≤ length xs = search rules in
+    let many : length m.frames ≡ n = frames_long p xs long ∙ sym c.confirmed-count.ensures in
     let end = c.length_by-end.ensures in
-    let l : ltb (length xs) 2000000 ≡ false = le-ltb _ _ c.if-inputs-lt-INPUTS.false in
+    let l : ltb (length xs) 2000000 ≡ false = le-ltb _ _ long in
     let b : ltb (length out) (match_length (length m.frames)) ≡ false = le-ltb _ _ (omega arith) in
     let k = length c.put_confirmed.new.frames / 600 in
     let lent = c.split_at_mut-frames.ensures.back ∙ ap (drop n) c.split_at_mut-head.ensures.back in

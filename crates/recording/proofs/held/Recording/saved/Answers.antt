@@ -1,10 +1,9 @@
-use Rattle.std.proofs.Common.{◌≡◌, ◌-◌, ◌*◌, ◌/◌, map, length, take, sym, ap, ◌∙◌, arith}
+use Rattle.std.proofs.Common.{◌-◌, ◌*◌, ◌/◌, map, length, take, ◌∙◌, arith}
 use Rattle.court.proofs.Stays.{start_in}
 use Rattle.court.specs.Frame.{start}
 use Rattle.court_game.proofs.Stays.{plays_in}
-use Rattle.game.specs.Plain.{plays, seat_0, seat_1}
+use Rattle.game.specs.Plain.{seat_0, seat_1}
 use Rattle.recording.specs.Matches.{after_frames}
-use Rattle.recording.proofs.Frames.{length_marks}
 use Rattle.recording.proofs.Marked.{saved_at}
 use Rattle.recording.proofs.held.Recording.saved.Goals as goal
 
