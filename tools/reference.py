@@ -2,7 +2,9 @@
 """The programs again, written from docs/RULES.md alone, to compare with: slow, and with none of the repository's code.
 
     reference.py plain FILE [show]
-    reference.py play SEAT N FILE [show] [letters OUT]
+    reference.py play SEAT N FILE [show] [letters OUT] [record OUT]
+    reference.py replay FILE BEAT
+    reference.py radio SEED N TICKS LOSS TWICE DELAY ..
 """
 import sys
 
@@ -194,8 +196,50 @@ def events_of(file):
     return events
 
 
-def play(seat, window, file, show=False, letters=None):
-    """What `play` prints, and whether it was not refused; the packets go to the list `letters`."""
+def recording(window, frames):
+    """The recording of a match, by a byte for each frame."""
+    s, states = State(), []
+    for n, frame in enumerate(frames, 1):
+        s.frame(frame % 16, frame // 16)
+        if n % 600 == 0:
+            states.append(s.saved())
+    return b"REC" + bytes([window]) + len(frames).to_bytes(4, "little") + frames + b"".join(states)
+
+
+def recording_fault(file):
+    """The first byte in fault of bytes that are no recording, or none."""
+    if file[:3] != b"REC"[:len(file)]:
+        return next(i for i in range(3) if file[i] != b"REC"[i])
+    if len(file) >= 4 and not 1 <= file[3] <= 60:
+        return 3
+    if len(file) < 8:
+        return len(file)
+    n = int.from_bytes(file[4:8], "little")
+    if n > MOST:
+        return 4
+    if len(file) < 8 + n:
+        return len(file)
+    right = recording(file[3], file[8:8 + n])
+    if file == right:
+        return None
+    both = min(len(file), len(right))
+    return next((i for i in range(both) if file[i] != right[i]), both)
+
+
+def replay(file, frame):
+    """What `replay` prints on standard output, and whether it showed something."""
+    fault = recording_fault(file)
+    if fault is not None:
+        return f"refused 6 at {fault}\n", False
+    frames = file[8:8 + int.from_bytes(file[4:8], "little")]
+    if frame > len(frames):
+        return "", False
+    s = plain_game([b % 16 for b in frames[:frame]], [b // 16 for b in frames[:frame]])
+    return f"beat {frame} of {len(frames)} points {s.score[0]} {s.score[1]}\n" + s.picture(), True
+
+
+def play(seat, window, file, show=False, letters=None, record=None):
+    """What `play` prints, and whether it was not refused; the packets go to the list `letters`, the recording to the list `record`."""
     if not 1 <= window <= 60:
         return "refused 5 at 0\n", False
     events = events_of(file)
@@ -213,10 +257,82 @@ def play(seat, window, file, show=False, letters=None):
         if kind == 0 and not said.startswith("refused") and letters is not None:
             p = peer.packet()
             letters.append(b"\1" + len(p).to_bytes(2, "little") + p)
+    if record is not None:
+        both = [peer.own, peer.other] if seat == 0 else [peer.other, peer.own]
+        record.append(recording(window, bytes(a + 16 * b for a, b in zip(*both))))
     return "".join(out), True
 
 
+class Random:
+    def __init__(self, seed):
+        self.state = seed
+
+    def below(self, n):
+        self.state = (self.state * 6364136223846793005 + 1442695040888963407) % 2 ** 64
+        return (self.state >> 33) % n if n else 0
+
+
+class Side:
+    """A machine at the radio: its peer, what it holds, the packets that it wrote, and the counts."""
+
+    def __init__(self, seat, window):
+        self.peer, self.held, self.sent = Peer(seat, window), 0, []
+        self.lost = self.refused = self.played = self.again = 0
+
+    def tick(self, held):
+        said = self.peer.tick(held)
+        self.lost += said == "lost"
+        self.played += said is None
+        self.sent.append(self.peer.packet())
+
+    def hear(self, packet):
+        before, n = self.peer.predicted(), len(self.peer.own)
+        if self.peer.hear(packet) is not None:
+            self.refused += 1
+            return
+        after = self.peer.predicted()
+        right = next((i for i in range(n) if before[i] != after[i]), n)
+        self.played += n - right
+        self.again += n - right
+
+    def line(self, name):
+        p = self.peer
+        points = p.shown().score
+        return (f"{name} beat {len(p.own)} sure {p.confirmed()} points {points[0]} {points[1]} "
+                f"lost {self.lost} refused {self.refused} played {self.played} again {self.again}\n")
+
+
+def radio(seed, window, ticks, loss, twice, delay):
+    """What `radio` prints of one row."""
+    random, sides, air = Random(seed), [Side(0, window), Side(1, window)], []
+    for now in range(ticks + 150):
+        for seat, side in enumerate(sides):
+            changes, held = random.below(8) == 0, random.below(16)
+            side.held = held if changes else side.held
+            for due, to, number in air:
+                if (due, to) == (now, seat):
+                    side.hear(sides[1 - seat].sent[number])
+            side.tick(side.held)
+            lost, doubled = random.below(256) < loss, random.below(256) < twice
+            late = [random.below(max(0, delay - 1)) for _ in range(2)]
+            if now >= ticks:
+                lost, doubled, late = False, False, [0, 0]
+            for more in late[:0 if lost else 2 if doubled else 1]:
+                air.append((now + 2 + more, 1 - seat, now))
+    left, right = (side.peer for side in sides)
+    sure = min(left.confirmed(), right.confirmed())
+    games = [(left.own[:sure], left.other[:sure]), (right.other[:sure], right.own[:sure])]
+    same = games[0] == games[1] and plain_game(*games[0]).saved() == plain_game(*games[1]).saved()
+    return (f"seed {seed} window {window} ticks {ticks} loss {loss} twice {twice} delay {delay}\n"
+            + sides[0].line("left") + sides[1].line("right") + (f"same {sure}\n" if same else "different\n"))
+
+
 def main(args):
+    if args[:1] == ["radio"] and len(args) > 1 and len(args) % 6 == 1:
+        numbers = [int(word) for word in args[1:]]
+        for i in range(0, len(numbers), 6):
+            print(radio(*numbers[i:i + 6]), end="")
+        return 0
     if args[:1] == ["plain"]:
         frames = open(args[1], "rb").read()
         s = plain_game([b % 16 for b in frames], [b // 16 for b in frames])
@@ -225,11 +341,16 @@ def main(args):
             print(s.picture(), end="")
         return 0
     if args[:1] == ["play"]:
-        letters = []
-        text, done = play(int(args[1]), int(args[2]), open(args[3], "rb").read(), "show" in args[4:], letters)
+        letters, record = [], []
+        text, done = play(int(args[1]), int(args[2]), open(args[3], "rb").read(), "show" in args[4:], letters, record)
         print(text, end="")
-        if done and "letters" in args:
-            open(args[args.index("letters") + 1], "wb").write(b"".join(letters))
+        for word, parts in (("letters", letters), ("record", record)):
+            if done and word in args:
+                open(args[args.index(word) + 1], "wb").write(b"".join(parts))
+        return 0 if done else 1
+    if args[:1] == ["replay"]:
+        text, done = replay(open(args[1], "rb").read(), int(args[2]))
+        print(text, end="")
         return 0 if done else 1
     print(__doc__, file=sys.stderr)
     return 1

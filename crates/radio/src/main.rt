@@ -218,7 +218,7 @@ fn inputs_at(seat: Seat, inputs: &[u8], frames: usize) -> Option<(&[u8], &[u8])>
     Some(seat.in_order(own, other))
 }
 
-// The first frame in which two rows of inputs differ.
+// The first frame in which two rows of inputs differ. `recording` has this line too, for itself.
 fn difference(one: &[u8], other: &[u8]) -> Option<usize> {
     one.iter().zip(other).position(|(x, y)| x != y)
 }
