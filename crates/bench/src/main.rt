@@ -13,6 +13,8 @@ use std::process::ExitCode;
 
 const USAGE: &str = "usage: bench pictures|packets COUNT";
 
+// Numbers of the rules and of a packet's bytes stand here once more: `court` and `packet` keep theirs to themselves.
+
 // A game is over where a seat has so many points.
 const LAST_POINT: u8 = 9;
 

@@ -31,7 +31,7 @@ pub struct State {
     pub wait: u8,
 }
 
-// An end of the court, or what stands at it.
+// An end of the court, or what stands at it. It is not `game`'s `Seat`: the court rests on no other crate.
 #[derive(Clone, Copy, PartialEq, Eq, Debug)]
 pub enum Side {
     Left,

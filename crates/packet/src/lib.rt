@@ -29,4 +29,5 @@ pub const MOST_INPUTS: u8 = 120;
 // As many bytes as a packet has at most. A constant's value calls no `from`.
 pub const MOST_LENGTH: usize = INPUTS_AT + MOST_INPUTS as usize;
 
+// What a packet carries: which inputs a game takes is said by the game, also where it is the same number.
 const LARGEST_INPUT: u8 = 15;

@@ -29,6 +29,7 @@ fn read_start(packet: &[u8]) -> Result<(u32, u8), Fault>
     }
     let count = *packet.get(COUNT_AT).ok_or(cut)?;
     let first = u32::get(packet, FIRST_AT);
+    // There is no `From` of a usize for a u64.
     if u64::from(first) + u64::from(count) > MOST_FRAMES as u64 {
         return Err(Fault::PastEnd);
     }

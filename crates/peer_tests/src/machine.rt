@@ -64,7 +64,7 @@ impl Machine {
         right: &[u8],
     ) -> Result<(), Fail> {
         let held = shown::<Held>(&self.p, self.inputs.as_slice())?;
-        assert_eq!(rt; held.0.state, play(left, right).state);
+        assert_eq!(rt; held.0, play(left, right));
         Ok(())
     }
 }

@@ -1,5 +1,6 @@
 // One row: its background, then what crosses it painted over. Each painter says of every place of the row, also past its end,
 // what stands there after: its own byte where a test holds, else what stood there before.
+// `row` and `j` are two parameters, since a ghost fact beside a `&mut` was not proved on.
 // A row is a part of the lent picture, so its length is asked for; an array in its place came as an Option whose None cannot be.
 ghost use Rattle.std.specs.Prelude.{◌≡◌, ℕ, ◌≤◌, ◌&&◌, length, if◌then◌else◌, slice_index};
 ghost use Rattle.picture.specs.Areas.{in_run, Covered};

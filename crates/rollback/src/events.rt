@@ -1,6 +1,6 @@
 // What a peer does: it begins, ticks and takes in packets. The memory that it is lent is tested at each call.
-// The numbers, the inputs and the states are passed one by one: the borrow checker does not cover a method that passes on two
-// fields of one struct of three `&mut`.
+// The numbers, the inputs and the states are passed one by one: all are lent anew at each call, so a struct of the three would be put
+// together at each, and no caller would write less.
 ghost use Rattle.std.specs.Prelude.{◌≡◌, ℕ, ◌+◌, ◌<◌, ◌≤◌, true, length, is_err, OnOk, IfOk, IfErr, Ok, ◌≢◌};
 ghost use Rattle.packet.specs.Wire.{Proper, message_of, reading};
 ghost use Rattle.rollback.specs.declared.outcome.Outcome.TheVariants.{Taken, Refused};

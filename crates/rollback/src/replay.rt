@@ -18,7 +18,7 @@ pub(crate) fn replay<G: SavedGame>(p: &Peer, inputs: &[u8], states: &mut [u8], f
     ensures behind { Behind (p.now.window + 1) states.old states.new }
 {
     let mut game: Going<G> = Going::from_saved(p, states, from);
-    // Asked for as a form: going back is a loop over frames from a saved state, left by a label.
+    // Decided for all of this repository: going back is a loop over frames from a saved state, left by a label.
     'replay: loop {
         if game.frame == p.own {
             break 'replay;

@@ -37,11 +37,10 @@ fn check_game(
 ) -> Result<(), Fail> {
     let (own, other) = seat.in_order(left, right);
     let mut file = Vec::new(rt.alloc());
-    let mut first: u32 = 0;
-    for (some, came) in own.chunks(7).zip(other.chunks(7)) {
+    for (k, (some, came)) in own.chunks(7).zip(other.chunks(7)).enumerate() {
+        let first = u32::try_from(k.saturating_mul(7))?;
         ticks(&mut file, some)?;
         arrival(&mut file, &packet(rt.alloc(), first, 0, came)?)?;
-        first = first.saturating_add(7);
     }
     check_picture(rt, seat, 60, &file, left, right)
 }

@@ -22,7 +22,7 @@ impl From<Outcome> for Told {
     }
 }
 
-// Two states are the same where their bytes are.
+// Two states are the same where their bytes are: a game whose states can be saved need not be one that can be compared.
 fn same_state<G: SavedGame>(a: G, b: G) -> bool {
     let mut x = [0; STATE_BYTES];
     let mut y = [0; STATE_BYTES];

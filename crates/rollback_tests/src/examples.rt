@@ -22,7 +22,7 @@ fn packet(first: u8, ack: u8, inputs: [u8; 3]) -> [u8; 13] {
 // What is shown is the plain game with these inputs.
 fn check_shown(rt: &impl Abort, machine: &Machine, left: &[u8], right: &[u8]) -> Result<(), Fail> {
     let held = machine.shown::<Held>()?;
-    assert_eq!(rt; held.0.state, play(left, right).state);
+    assert_eq!(rt; held.0, play(left, right));
     Ok(())
 }
 

@@ -21,7 +21,7 @@ fn negative_velocity(rt: HostRuntime) {
     let mut bytes = [7; STATE_BYTES];
     save_state(court, &mut bytes);
     assert_eq!(rt; &bytes[8..12], [0, 254, 255, 255].as_slice());
-    assert_eq!(rt; load_state(&bytes).state, court.state);
+    assert_eq!(rt; load_state(&bytes), court);
 }
 
 // Bytes that no state of a game has are brought into the court.
