@@ -16,7 +16,7 @@ ghost use Rattle.rollback.specs.Saved.{Behind, Happened};
 ghost use Rattle.rollback_session.specs.Events.{event_of, said, writes, sent, packet_over};
 ghost use Rattle.rollback_session.specs.Standing.{status_of};
 ghost use Rattle.rollback_session.specs.Refusals.{as_begun, said_begun, said_drawn};
-ghost use Rattle.rollback_session.specs.Rows.{After, log_after, memory};
+ghost use Rattle.rollback_session.specs.Rows.{After, WritesOwn, log_after, memory};
 
 use crate::event::{Answer, Happening};
 use crate::refused::Refused;
@@ -119,6 +119,7 @@ pub fn happen(
     ensures guessed { (xs : List ℕ) → event_of event.entry ≡ arrival xs → predicted (log_of p.old inputs.old) ≡ predicted (log_of p.new inputs.new) → ((n : ℕ) → result.outcome ≡ Taken n → n ≡ 0) × (states.new ≡ states.old) }
     ensures sent { result.sent ≡ sent (writes (event_of event.entry) result.outcome) (sends (log_of p.new inputs.new)) }
     ensures packet { out.new ≡ packet_over (writes (event_of event.entry) result.outcome) (sends (log_of p.new inputs.new)) out.old }
+    ensures own { (seat : At) (window : ℕ) (es : List Event) → After seat window es (memory p.old inputs.old states.old) → WritesOwn window (es ++ event_of event.entry ∷ []) (writes (event_of event.entry) result.outcome) out.old result.sent out.new }
 {
     let outcome = carry_out(p, inputs, states, event);
     let sent = if is_told(event, outcome) {
