@@ -18,7 +18,7 @@ use Rattle.rollback.specs.declared.outcome.Outcome.{Outcome}
 use Rattle.rollback.specs.declared.outcome.Outcome.TheVariants.{Taken, Lost, Refused}
 use Rattle.peer.specs.declared.outcome.Refusal.{Refusal}
 use Rattle.peer.specs.declared.outcome.Refusal.TheVariants.{Input}
-use Rattle.peer.specs.Lent.{LongStates, log_of}
+use Rattle.peer.specs.Lent.{log_of}
 use Rattle.peer.specs.Peers.{Log, tick, arrival, event, run, goes_on, sends}
 use Rattle.rollback.specs.Said.{said_tick, said_read, said_arrival}
 use Rattle.peer.proofs.Logs.{own_long}
@@ -69,6 +69,10 @@ writes_fits window inputs states log a h k =
 abbrev ticked_network : ℕ → Network → Seat → ℕ → Network
 ticked_network window n seat a = court_turn window n (network.tick seat a)
 
+ticked_packets : (window : ℕ) (n : Network) (seat : Seat) (a : ℕ) → packets_to (ticked_network window n seat a) (facing seat) ≡ packets_to n (facing seat)
+unfolding turn
+ticked_packets window n seat a = packets_beside n seat (facing seat) (event (λ b. leb b 15) window (peer_at n seat) (tick a))
+
 ticked_peer : (window : ℕ) (n : Network) (seat : Seat) (a : ℕ) → peer_at (ticked_network window n seat a) seat ≡ event (λ b. leb b 15) window (peer_at n seat) (tick a)
 unfolding turn
 ticked_peer window n seat a = peer_there n seat (event (λ b. leb b 15) window (peer_at n seat) (tick a))
@@ -106,15 +110,12 @@ message_long : (m : Message) → length (message_bytes m) ≡ message_length m
 message_long m = omega (arith, length-append (little 4 m.ack) m.inputs)
 
 -- as it lies in memory
-sent_by : (n : ℕ) (out before : List ℕ) (m : Message) → n ≡ message_length m → out ≡ message_bytes m ++ drop (message_length m) before → take n out ≡ message_bytes m
-sent_by n out before m e f =
+pub sent_is : (n : ℕ) (out before : List ℕ) (m : Message) (b : Bool) → b ≡ true → n ≡ message_length m → out ≡ packet_over b m before → take n out ≡ message_bytes m
+sent_is n out before m true t e f =
     ap (λ k. take k out) e
     ∙ ap (take (message_length m)) f
     ∙ take_at (message_bytes m) (drop (message_length m) before) (message_length m) (message_long m)
-
-pub sent_is : (n : ℕ) (out before : List ℕ) (m : Message) (b : Bool) → b ≡ true → n ≡ message_length m → out ≡ packet_over b m before → take n out ≡ message_bytes m
-sent_is n out before m true t e f = sent_by n out before m e f
-sent_is n out before m false t e f = let z : ◌≡◌ {A = ℕ} 0 1 = cc in absurd (omega arith)
+sent_is n out before m false t e f = cc
 
 -- with one packet more
 pub packet_more : (window : ℕ) (n : Network) (seat : Seat) (a : ℕ) (k : Memory) (ps : List (Vec ℕ Global)) (s : Vec ℕ Global) → leb a 15 ≡ true → PacketsAt n (facing seat) ps → PeerAt window (acted window n seat (Tick a)) seat k → vec_items s ≡ message_bytes (sends (log_of k.peer k.inputs)) → PacketsAt (acted window n seat (Tick a)) (facing seat) (ps ++ s ∷ [])
@@ -126,9 +127,8 @@ packet_more window n seat a k ps s fit at stands is =
     let same : log_of k.peer k.inputs ≡ log = stands.log_is ∙ moved_peer window n seat a ∙ sym (ticked_peer window n seat a) in
     let few : log.acked ≤ length log.own = subst (λ l. l.acked ≤ length l.own) (moved_peer window n seat a ∙ sym (ticked_peer window n seat a)) (acked_few seat window (peer_at (acted window n seat (Tick a)) seat) k stands) in
     let bytes : vec_items s ≡ message_bytes m = is ∙ ap (λ l. message_bytes (sends l)) same ∙ ap message_bytes (sends_is log few) in
-    let old : packets_to t (facing seat) ≡ packets_to n (facing seat) = packets_beside n seat (facing seat) (event (λ b. leb b 15) window (peer_at n seat) (tick a)) in
     let whole : packets_to (acted window n seat (Tick a)) (facing seat) ≡ packets_to n (facing seat) ++ m ∷ [] =
-    ap (λ b. packets_to (cond b (sends_at window t seat) t) (facing seat)) fit ∙ packets_there t (facing seat) m ∙ ap (λ zs. zs ++ m ∷ []) old in
+    ap (λ b. packets_to (cond b (sends_at window t seat) t) (facing seat)) fit ∙ packets_there t (facing seat) m ∙ ap (λ zs. zs ++ m ∷ []) (ticked_packets window n seat a) in
     map_push vec_items ps s
     ∙ ap (λ zs. zs ++ vec_items s ∷ []) at
     ∙ ap (λ z. map message_bytes (packets_to n (facing seat)) ++ z ∷ []) bytes
@@ -140,21 +140,19 @@ pub packet_none : (window : ℕ) (n : Network) (seat : Seat) (a : ℕ) (ps : Lis
 unfolding acted turn
 packet_none window n seat a ps unfit at =
     let t : Network = ticked_network window n seat a in
-    let old : packets_to t (facing seat) ≡ packets_to n (facing seat) = packets_beside n seat (facing seat) (event (λ b. leb b 15) window (peer_at n seat) (tick a)) in
-    at ∙ ap (map message_bytes) (sym (ap (λ b. packets_to (cond b (sends_at window t seat) t) (facing seat)) unfit ∙ old))
+    at ∙ ap (map message_bytes) (sym (ap (λ b. packets_to (cond b (sends_at window t seat) t) (facing seat)) unfit ∙ ticked_packets window n seat a))
 
 -- whether one was written
 pub wrote : (seat : Seat) (window : ℕ) (log : Log) (m : Memory) (o : Outcome) (a : ℕ) → StandsFor court_saved seat window log m → o ≡ said (λ b. leb b 15) m.peer.window (length m.inputs) (length m.states) (log_of m.peer m.inputs) (tick a) → writes (tick a) o ≡ leb a 15
 wrote seat window log m o a s e =
-    let room : LongStates m.peer.window m.states = subst (λ w. LongStates w m.states) (sym s.window_is) s.roomy.states_long in
-    ap (writes (tick a)) e ∙ writes_fits m.peer.window _ _ (log_of m.peer m.inputs) a s.roomy.inputs_long room
+    ap (writes (tick a)) e ∙ writes_fits m.peer.window _ _ (log_of m.peer m.inputs) a s.roomy.inputs_long (omega arith)
 
 pub told_some : (b : Bool) (m : Message) (n : ℕ) → Some n ≡ sent b m → (b ≡ true) × (n ≡ message_length m)
 told_some true m n e = let k : n ≡ message_length m = cc in (refl, k)
-told_some false m n e = let z : ◌≡◌ {A = ℕ} 0 1 = cc in absurd (omega arith)
+told_some false m n e = (cc, cc)
 
 pub told_none : (b : Bool) (m : Message) → None ≡ sent b m → b ≡ false
-told_none true m e = let z : ◌≡◌ {A = ℕ} 0 1 = cc in absurd (omega arith)
+told_none true m e = cc
 told_none false m e = refl
 
 -- ---- a packet that comes
@@ -202,8 +200,7 @@ read_taken window inputs states log xs m f h k read e =
     let i : ltb inputs 2000000 ≡ false = le-ltb _ _ h in
     let s : ltb states ((window + 1) * 64) ≡ false = le-ltb _ _ k in
     let w : ◌≡◌ {A = Outcome} (said_read log (Ok m)) (Refused f) = simp (i, s, read) at e in
-    let z : ◌≡◌ {A = ℕ} 0 1 = cc in
-    omega arith
+    cc
 
 -- none is refused that was written at the network
 pub none_refused_at : (window : ℕ) (ts : List Turn) (seat : Seat) (number : ℕ) (ps : List (Vec ℕ Global)) (d : Vec ℕ Global) (m : Memory) (f : Refusal) → number < length ps → PacketsAt (court_network window ts) seat ps → PeerAt window (court_network window ts) seat m → Refused f ≡ said (λ b. leb b 15) m.peer.window (length m.inputs) (length m.states) (log_of m.peer m.inputs) (arrival (vec_items (get_or ps number d))) → ⊥
@@ -213,8 +210,7 @@ none_refused_at window ts seat number ps d m f h at s e =
     let k : Message = get_or (packets_to n seat) number no_message in
     let read : reading (length (peer_at n seat).own) (message_bytes k) ≡ Ok k = All-get_or _ (packets_to n seat) number no_message there.0 (none_refused (λ b. leb b 15) window ts narrow seat) in
     let here : reading (length (log_of m.peer m.inputs).own) (vec_items (get_or ps number d)) ≡ Ok k = ap (λ l. reading (length l.own) (vec_items (get_or ps number d))) s.log_is ∙ ap (reading (length (peer_at n seat).own)) there.1 ∙ read in
-    let room : LongStates m.peer.window m.states = subst (λ w. LongStates w m.states) (sym s.window_is) s.roomy.states_long in
-    read_taken m.peer.window _ _ (log_of m.peer m.inputs) (vec_items (get_or ps number d)) k f s.roomy.inputs_long room here (sym e)
+    read_taken m.peer.window _ _ (log_of m.peer m.inputs) (vec_items (get_or ps number d)) k f s.roomy.inputs_long (omega arith) here (sym e)
 
 -- a packet that comes leaves those that were written
 pub delivered_packets : (window : ℕ) (n : Network) (seat at : Seat) (number : ℕ) (ps : List (Vec ℕ Global)) → PacketsAt n at ps → PacketsAt (acted window n seat (Deliver number)) at ps

@@ -1,4 +1,4 @@
-use Rattle.std.proofs.Common.{rules, ◌≡◌, ◌+◌, ◌≤◌, List, [], map, get_or, take, vec_items, refl, ap, ◌∙◌, subst, arith}
+use Rattle.std.proofs.Common.{rules, ◌≡◌, ◌+◌, ◌≤◌, [], map, get_or, take, vec_items, refl, ap, ◌∙◌, arith}
 use Rattle.game.specs.declared.seat.Seat.TheVariants.{Left, Right}
 use Rattle.exchange.specs.declared.moves.Act.TheVariants.{Tick}
 use Rattle.exchange.specs.declared.moves.Move.{Move}
