@@ -1,5 +1,5 @@
 // Packets written into lent memory, and read from it.
-use packet::{Packet, Unwritten};
+use packet::{MOST_LENGTH, Packet, Unwritten};
 
 #[test]
 fn bytes(rt: HostRuntime) {
@@ -45,6 +45,7 @@ fn most_inputs(rt: HostRuntime) {
         ..over
     };
     assert_eq!(rt; full.write(&mut out), Ok(130));
+    assert_eq!(rt; MOST_LENGTH, 130);
     assert_eq!(rt; out[130], 9);
     assert_eq!(rt; Packet::read(&out[..130], 5), Ok(full));
 }

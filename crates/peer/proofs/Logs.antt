@@ -1,9 +1,8 @@
 -- The log in lent memory, and what is written to it. Assumes nothing.
-use Rattle.std.proofs.Common.{◌≡◌, ℕ, ◌+◌, ◌-◌, ◌<◌, ◌≤◌, min, cond, ◌&&◌, ltb, List, [], ◌++◌, length, get_or, take, drop, sym, ap, ◌∙◌, inl, inr, arith, length-drop, length-take}
+use Rattle.std.proofs.Common.{◌≡◌, ℕ, ◌+◌, ◌-◌, ◌<◌, ◌≤◌, min, cond, ◌&&◌, ltb, List, [], ◌++◌, length, get_or, take, drop, sym, ap, ◌∙◌, arith, length-drop, length-take}
 use borrow.Rule.Slice.PartMut.{put_mid}
-use Rattle.std.proofs.lemmas.List.{places, take-take, take_all, drop-take, drop-append-le, length-take-le}
+use Rattle.std.proofs.lemmas.List.{places, take-take, take_min, drop-take, drop-append-le, length-take-le}
 use Rattle.std.proofs.lemmas.Slice.{take-put_mid}
-use Rattle.std.proofs.lemmas.Bool.{cases_lt}
 use Rattle.std.proofs.lemmas.Bool.Decides.{nat_tests}
 use Rattle.std.proofs.lemmas.Grind.{common_steps}
 use Rattle.packet.specs.Wire.{Message}
@@ -56,12 +55,8 @@ pub part_sent : (xs : List ℕ) (own acked to : ℕ) → acked ≤ own → own �
 part_sent xs own acked to h l e =
     let n : ℕ = own - acked in
     let ys : List ℕ = drop acked xs in
+    let zs : List ℕ = drop acked (take own xs) in
     let w : own ≡ acked + n = omega arith in
-    let d : drop acked (take own xs) ≡ take n ys = ap (λ k. drop acked (take k xs)) w ∙ drop-take acked n xs in
-    elim (cases_lt 120 n) [
-      | inl many ↦ let m : to - acked ≡ 120 = omega arith in ap (λ k. take k ys) m ∙ sym (ap (take 120) d ∙ take-take 120 n ys (omega arith))
-      | inr few ↦
-          let m : to - acked ≡ n = omega arith in
-          let short : length (take n ys) ≤ 120 = simp length-take (omega arith) in
-          ap (λ k. take k ys) m ∙ sym (ap (take 120) d ∙ take_all 120 (take n ys) short)
-    ]
+    let d : zs ≡ take n ys = ap (λ k. drop acked (take k xs)) w ∙ drop-take acked n xs in
+    let m : to - acked ≡ min 120 (length zs) = simp (length-drop, length-take) (omega arith) in
+    sym (take-take (to - acked) n ys (omega arith)) ∙ ap (take (to - acked)) (sym d) ∙ ap (λ k. take k zs) m ∙ take_min 120 zs

@@ -78,7 +78,7 @@ fn begins(rt: HostRuntime) -> Result<(), Fail> {
         Err(Refusal::Inputs)
     );
     assert_eq!(rt;
-        begin(seat, 60, inputs, &states[..3903]),
+        begin(seat, 60, inputs, &states[..MOST_STATES - 1]),
         Err(Refusal::States)
     );
     assert_eq!(rt; begin(seat, 60, inputs, &states)?.window, 60);
