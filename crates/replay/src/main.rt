@@ -26,12 +26,7 @@ fn options_of(mut words: env::Args) -> Option<(String, usize)> {
     }
 }
 
-fn print_shown(
-    rt: &HostRuntime,
-    frame: usize,
-    shown: Shown,
-    picture: &[u8],
-) -> anyhow::Result<()> {
+fn print_shown(rt: &HostRuntime, frame: usize, shown: Shown, picture: &[u8]) -> anyhow::Result<()> {
     let Shown { frames, score } = shown;
     println!(rt;
         "beat {frame} of {frames} points {} {}",
