@@ -16,8 +16,8 @@ use Rattle.network.proofs.Rows.{handed_there, handed_past}
 use Rattle.packet.specs.Wire.{Message, message_bytes, message_length, reading}
 use Rattle.rollback.specs.declared.outcome.Outcome.{Outcome}
 use Rattle.rollback.specs.declared.outcome.Outcome.TheVariants.{Taken, Lost, Refused}
-use Rattle.peer.specs.declared.outcome.Refusal.{Refusal}
-use Rattle.peer.specs.declared.outcome.Refusal.TheVariants.{Input}
+use Rattle.peer.specs.declared.refusal.Refusal.{Refusal}
+use Rattle.peer.specs.declared.refusal.Refusal.TheVariants.{Input}
 use Rattle.peer.specs.Lent.{log_of}
 use Rattle.peer.specs.Peers.{Log, tick, arrival, event, run, goes_on, sends}
 use Rattle.rollback.specs.Said.{said_tick, said_read, said_arrival}

@@ -3,7 +3,7 @@ ghost use Rattle.std.specs.Prelude.{◌≡◌, ℕ, List, Some, length, is_some,
 ghost use Rattle.game.specs.declared.seat.Seat.{Seat as At};
 ghost use Rattle.network.specs.Network.{Network, Turn, facing};
 ghost use Rattle.rollback.specs.declared.outcome.Outcome.TheVariants.{Refused as Unfit};
-ghost use Rattle.peer.specs.declared.outcome.Refusal.{Refusal};
+ghost use Rattle.peer.specs.declared.refusal.Refusal.{Refusal};
 ghost use Rattle.exchange.specs.declared.moves.Act.TheVariants.{Tick, Deliver};
 ghost use Rattle.exchange.specs.Moves.{court_network, acted, memory_of, SameLent, PeerAt, PacketsAt};
 ghost use Rattle.exchange.specs.Tallies.{counted_by};

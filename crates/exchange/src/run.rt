@@ -1,7 +1,7 @@
 // A row of moves at two machines, from the beginning.
 ghost use Rattle.std.specs.Prelude.{◌≡◌, ℕ, ◌≤◌, ◌⊎◌, List, length, Err, IfOk, nat_le};
 ghost use Rattle.court_game.specs.Games.{is_input};
-ghost use Rattle.peer.specs.Said.{begin_checked};
+ghost use Rattle.peer.specs.Refusals.{begin_checked};
 ghost use Rattle.rollback_session.specs.Refusals.{said_begun};
 ghost use Rattle.rollback_session.specs.declared.refused.Refused.{Refused as Faults};
 ghost use Rattle.exchange.specs.declared.run.Unplayed.TheVariants.{Refused as Unbegun, NoMemory};

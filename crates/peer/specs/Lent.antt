@@ -1,10 +1,10 @@
 -- Peers in lent memory. Assumes nothing: these are definitions.
-use Rattle.std.specs.Prelude.{◌≡◌, ℕ, zero, suc, ◌+◌, ◌-◌, ◌*◌, ◌<◌, ◌≤◌, Bool, cond, List, [], ◌∷◌, ◌++◌, length, take, drop, nat_lt, slice_index}
+use Rattle.std.specs.Prelude.{◌≡◌, ℕ, zero, suc, ◌+◌, ◌-◌, ◌*◌, ◌<◌, ◌≤◌, cond, List, [], ◌∷◌, ◌++◌, length, take, drop, nat_lt, slice_index}
 use Rattle.game.specs.Plain.{Game}
 use Rattle.game.specs.declared.seat.Seat.{Seat}
 use Rattle.game.specs.declared.seat.Seat.TheVariants.{Left, Right}
 use Rattle.peer.specs.declared.numbers.Peer.{Peer}
-use Rattle.peer.specs.Peers.{Log, Event, event, new_log}
+use Rattle.peer.specs.Peers.{Log}
 
 -- the log that a peer's numbers and lent memory stand for: own inputs, and from 1,000,000 on the other's
 unfoldable pub log_of : Peer → List ℕ → Log
@@ -27,19 +27,6 @@ abbrev pub Untouched : Peer → List ℕ → Peer → List ℕ → Type 0
 Untouched p inputs q inputs' =
     (i : ℕ) → ((p.own ≤ i) × (i < q.own) → ⊥) → ((1000000 + p.other ≤ i) × (i < 1000000 + q.other) → ⊥) →
     slice_index inputs' i ≡ slice_index inputs i
-
--- a peer that has just begun
-pub record Begun (seat : Seat) (window : ℕ) (p : Peer) (inputs : List ℕ) : Type 0 where
-  pub seat_is : p.seat ≡ seat
-  pub window_is : p.window ≡ window
-  pub log_is : log_of p inputs ≡ new_log
-
--- what an event does to a peer's numbers and its lent memory
-pub record Happened (fits : ℕ → Bool) (p : Peer) (inputs : List ℕ) (e : Event) (q : Peer) (after_inputs : List ℕ) : Type 0 where
-  pub window_same : q.window ≡ p.window
-  pub seat_same : q.seat ≡ p.seat
-  pub length_same : length after_inputs ≡ length inputs
-  pub does : Long inputs → log_of q after_inputs ≡ event fits p.window (log_of p inputs) e
 
 -- ---- the game by inputs as functions of the frame
 

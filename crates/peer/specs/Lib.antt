@@ -1,5 +1,3 @@
-pub mod Windows
+pub mod Refusals
 pub mod Peers
 pub mod Lent
-pub mod Said
-pub mod Rows

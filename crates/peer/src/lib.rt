@@ -3,14 +3,11 @@
 // Rests on game and packet.
 #![tactic(auto)]
 
-pub mod events;
 pub mod log;
 pub mod memory;
 pub mod numbers;
-pub mod outcome;
 pub mod outgoing;
-pub mod shown;
-pub mod statements;
+pub mod refusal;
 
 pub use numbers::Peer;
-pub use outcome::{Outcome, Refusal};
+pub use refusal::Refusal;

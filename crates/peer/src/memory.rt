@@ -1,11 +1,11 @@
 // Lent memory, as each call tests it: it is lent anew each time, so no type can keep that it is long enough.
 ghost use Rattle.std.specs.Prelude.{◌≡◌, ◌+◌, ◌*◌, ◌<◌, ◌≤◌, length, MatchResult};
-ghost use Rattle.peer.specs.declared.outcome.Refusal.TheVariants.{Inputs, States};
+ghost use Rattle.peer.specs.declared.refusal.Refusal.TheVariants.{Inputs, States};
 ghost use Rattle.peer.specs.Lent.{Long, LongStates};
 
 use crate::log::HALF;
 use crate::numbers::MOST_WINDOW;
-use crate::outcome::Refusal;
+use crate::refusal::Refusal;
 use game::saved::STATE_BYTES;
 
 // As many bytes as the inputs of both seats take.

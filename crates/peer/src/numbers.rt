@@ -1,9 +1,9 @@
 // A peer's numbers. Its inputs lie in memory that is lent anew at each call, so they are a parameter beside it, and what
 // works on both is a function: a method would take the same.
 ghost use Rattle.std.specs.Prelude.{◌≡◌, ◌+◌, ◌≤◌, min, ◌&&◌, Ok, Err, IfOk, MatchResult, nat_lt};
-ghost use Rattle.peer.specs.Windows.{window_checked};
+ghost use Rattle.peer.specs.Refusals.{window_checked};
 
-use crate::outcome::Refusal;
+use crate::refusal::Refusal;
 use game::plain::MOST_FRAMES;
 use game::seat::Seat;
 

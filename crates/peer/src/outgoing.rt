@@ -1,13 +1,13 @@
 // What a peer sends.
 ghost use Rattle.std.specs.Prelude.{◌≡◌, ◌<◌, length, MatchResult};
 ghost use Rattle.packet.specs.Wire.{message_of};
-ghost use Rattle.peer.specs.declared.outcome.Refusal.TheVariants.{Inputs};
+ghost use Rattle.peer.specs.declared.refusal.Refusal.TheVariants.{Inputs};
 ghost use Rattle.peer.specs.Lent.{Long, log_of};
 ghost use Rattle.peer.specs.Peers.{sends};
 
 use crate::memory::check_inputs;
 use crate::numbers::Peer;
-use crate::outcome::Refusal;
+use crate::refusal::Refusal;
 use packet::{MOST_INPUTS, Packet};
 
 // The packet that a peer sends after a tick, also after one that was lost. Its inputs are a part of the lent memory.

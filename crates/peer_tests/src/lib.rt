@@ -1,9 +1,7 @@
-// Tests of a peer: the court over lent memory, and a peer's log by itself.
+// Tests of a peer's numbers, log and refusals.
 
 #![tactic(auto)]
 
-#[cfg(test)]
-mod events;
 #[cfg(test)]
 mod logs;
 #[cfg(test)]

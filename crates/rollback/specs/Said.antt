@@ -2,10 +2,11 @@
 use Rattle.std.specs.Prelude.{ℕ, Bool, cond, List, length, Ok, Err, Result}
 use Rattle.packet.specs.Wire.{Message, reading}
 use Rattle.packet.specs.declared.fault.Fault.{Fault}
-use Rattle.peer.specs.declared.outcome.Refusal.{Refusal}
-use Rattle.peer.specs.declared.outcome.Refusal.TheVariants.{Input, Packet}
+use Rattle.peer.specs.declared.refusal.Refusal.{Refusal}
+use Rattle.peer.specs.declared.refusal.Refusal.TheVariants.{Input, Packet}
+use Rattle.peer.specs.declared.numbers.Peer.{Peer}
 use Rattle.peer.specs.Peers.{Log, goes_on, heard, to_play}
-use Rattle.peer.specs.Said.{memory_checked}
+use Rattle.peer.specs.Refusals.{memory_checked}
 use Rattle.rollback.specs.declared.outcome.Outcome.{Outcome}
 use Rattle.rollback.specs.declared.outcome.Outcome.TheVariants.{Taken, Lost, Refused}
 
@@ -26,3 +27,8 @@ said_read log (Err f) = Refused (Packet f)
 -- of bytes that came
 unfoldable pub said_arrival : ℕ → ℕ → ℕ → Log → List ℕ → Outcome
 said_arrival window inputs states log xs = if_checked (memory_checked window inputs states) (said_read log (reading (length log.own) xs))
+
+-- and of a new peer: that it begins, or why not
+abbrev pub as_checked : Result Peer Refusal → Result (Unit {0}) Refusal
+as_checked (Ok p) = Ok tt
+as_checked (Err f) = Err f

@@ -6,8 +6,8 @@ ghost use Rattle.packet.specs.Wire.{Proper, message_of, reading};
 ghost use Rattle.rollback.specs.declared.outcome.Outcome.TheVariants.{Taken, Refused};
 ghost use Rattle.peer.specs.Lent.{Untouched, log_of, with_own};
 ghost use Rattle.peer.specs.Peers.{tick as ticked, arrival, predicted};
-ghost use Rattle.rollback.specs.Said.{said_tick, said_arrival};
-ghost use Rattle.peer.specs.Said.{begin_checked, as_checked};
+ghost use Rattle.rollback.specs.Said.{as_checked, said_tick, said_arrival};
+ghost use Rattle.peer.specs.Refusals.{begin_checked};
 ghost use Rattle.rollback.specs.Saved.{Roomy, Behind, Kept, Begun, Happened};
 
 use crate::frames::Going;
@@ -23,7 +23,7 @@ use peer::numbers::check_window;
 use peer::{Peer, Refusal};
 
 // Whether a peer may begin, or why not: the window, the lent inputs or the lent states.
-#[tactic(auto, unfolding(peer::specs::Said::begin_checked))]
+#[tactic(auto, unfolding(peer::specs::Refusals::begin_checked))]
 pub fn check_begin(window: usize, inputs: &[u8], states: &[u8]) -> Result<(), Refusal>
     ensures answer { result ≡ begin_checked window (length inputs.now) (length states.now) }
     ensures within { result ≡ Ok tt → (1 ≤ window) × (window ≤ 60) }
@@ -34,7 +34,7 @@ pub fn check_begin(window: usize, inputs: &[u8], states: &[u8]) -> Result<(), Re
 
 // A new peer, or why there is none: the window, the lent inputs or the lent states. The state that the game starts with is saved
 // in the first slot; a refusal changes nothing.
-#[tactic(auto, unfolding(peer::specs::Said::begin_checked))]
+#[tactic(auto, unfolding(peer::specs::Refusals::begin_checked))]
 pub fn begin<G: SavedGame>(
     seat: Seat,
     window: usize,

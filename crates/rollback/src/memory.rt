@@ -1,6 +1,6 @@
 // Lent memory, as each call tests it.
 ghost use Rattle.std.specs.Prelude.{◌≡◌, ◌≤◌, OnOk, length};
-ghost use Rattle.peer.specs.Said.{memory_checked};
+ghost use Rattle.peer.specs.Refusals.{memory_checked};
 ghost use Rattle.rollback.specs.Saved.{Roomy};
 
 use peer::Refusal;

@@ -1,5 +1,4 @@
-// What an event at a peer that goes back comes to. It is not `peer::Outcome` with a type for what was taken: every answer of that
-// peer, which counts nothing, would then be written `Taken(())`.
+// What an event at a peer comes to.
 use peer::Refusal;
 
 #[derive(Clone, Copy, PartialEq, Eq, Debug)]

@@ -1,6 +1,6 @@
 // What a peer shows: the state saved after its last frame.
 ghost use Rattle.std.specs.Prelude.{◌≡◌, ◌+◌, ◌*◌, ◌<◌, length, MatchResult};
-ghost use Rattle.peer.specs.declared.outcome.Refusal.TheVariants.{States};
+ghost use Rattle.peer.specs.declared.refusal.Refusal.TheVariants.{States};
 ghost use Rattle.peer.specs.Lent.{LongStates};
 ghost use Rattle.rollback.specs.Saved.{Shown};
 

@@ -5,7 +5,7 @@ use Rattle.std.proofs.lemmas.Bool.Decides.{nat_tests}
 use Rattle.court.specs.declared.state.State.{State}
 use Rattle.picture.specs.Picture.{picture_of}
 use Rattle.picture.proofs.Rows.{length_rows}
-use Rattle.peer.specs.Said.{begin_checked}
+use Rattle.peer.specs.Refusals.{begin_checked}
 use Rattle.rollback_session.specs.declared.refused.Refused.{Refused}
 use Rattle.rollback_session.specs.Refusals.{said_begun, said_drawn}
 

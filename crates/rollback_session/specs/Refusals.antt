@@ -1,10 +1,10 @@
 -- How a session's refusals are told. Assumes nothing: these are definitions.
 use Rattle.std.specs.Prelude.{ℕ, ◌+◌, ◌*◌, cond, List, ◌++◌, codes, Ok, Err, Result, nat_lt}
 use Rattle.std.specs.Fmt.{decimal}
-use Rattle.peer.specs.Said.{refusal_number, refusal_place}
+use Rattle.peer.specs.Refusals.{refusal_number, refusal_place}
 use Rattle.peer.specs.declared.numbers.Peer as numbers
-use Rattle.peer.specs.declared.outcome.Refusal.{Refusal}
-use Rattle.peer.specs.declared.outcome.Refusal.TheVariants.{States}
+use Rattle.peer.specs.declared.refusal.Refusal.{Refusal}
+use Rattle.peer.specs.declared.refusal.Refusal.TheVariants.{States}
 use Rattle.rollback_session.specs.declared.refused.Refused.{Refused}
 use Rattle.rollback_session.specs.declared.refused.Refused.TheVariants.{Peer, Picture, Event}
 

@@ -3,7 +3,7 @@ ghost use Rattle.std.specs.Prelude.{◌≡◌, ℕ, true, List, ◌++◌, length
 ghost use Rattle.court_game.specs.Games.{court_game};
 ghost use Rattle.game.specs.declared.seat.Seat.{Seat as At};
 ghost use Rattle.peer.specs.Peers.{Event, shows};
-ghost use Rattle.peer.specs.Said.{begin_checked};
+ghost use Rattle.peer.specs.Refusals.{begin_checked};
 ghost use Rattle.picture.specs.Picture.{picture_of};
 ghost use Rattle.rollback_session.specs.Files.{FileOf};
 ghost use Rattle.rollback_session.specs.Refusals.{said_begun};

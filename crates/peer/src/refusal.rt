@@ -1,6 +1,6 @@
-// What an event at a peer comes to, and why something is refused.
+// Why a peer refuses something.
 ghost use Rattle.std.specs.Prelude.{◌≡◌};
-ghost use Rattle.peer.specs.Said.{refusal_number, refusal_place};
+ghost use Rattle.peer.specs.Refusals.{refusal_number, refusal_place};
 
 use packet::Fault;
 
@@ -16,16 +16,6 @@ pub enum Refusal {
     Inputs,
     // Lent memory for states that is too short.
     States,
-}
-
-#[derive(Clone, Copy, PartialEq, Eq, Debug)]
-pub enum Outcome {
-    // The tick or the packet was taken.
-    Taken,
-    // The tick came too early: the peer is as far ahead as it may be, or has played all frames.
-    Lost,
-    // Nothing changed.
-    Refused(Refusal),
 }
 
 impl Refusal {
