@@ -25,9 +25,9 @@ use Rattle.peer.proofs.Logs.{own_long}
 use Rattle.rollback.specs.Rows.{Memory, StandsFor}
 use Rattle.rollback.specs.Saved.{Happened}
 use Rattle.rollback.proofs.Rowed.{stands_more}
-use Rattle.rollback_session.specs.Events.{said, writes, sent, packet_over}
+use Rattle.session.specs.Events.{said, writes, sent, packet_over}
 use Rattle.exchange.specs.declared.moves.Act.TheVariants.{Tick, Deliver}
-use Rattle.rollback_session.specs.Rows.{After}
+use Rattle.session.specs.Rows.{After}
 use Rattle.exchange.specs.Moves.{court_network, court_turn, sends_at, acted, PeerAt, PacketsAt}
 
 -- ---- networks by seats

@@ -7,7 +7,7 @@ use Rattle.game.specs.declared.seat.Seat.{Seat}
 use Rattle.packet.specs.Wire.{message_bytes}
 use Rattle.network.specs.Network.{Network, Turn, tick, send, deliver, peer_at, packets_to, new_network, turn, network}
 use Rattle.rollback.specs.Rows.{Memory, StandsFor}
-use Rattle.rollback_session.specs.Rows.{memory}
+use Rattle.session.specs.Rows.{memory}
 use Rattle.exchange.specs.declared.moves.Move.{Move}
 use Rattle.exchange.specs.declared.moves.Act.{Act}
 use Rattle.exchange.specs.declared.moves.Act.TheVariants.{Tick, Deliver}

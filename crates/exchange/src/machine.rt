@@ -12,8 +12,8 @@ use crate::moves::Act;
 use crate::tally::Tally;
 use peer::Peer;
 use rollback::Outcome;
-use rollback_session::Happening;
-use rollback_session::calls::{PACKET_LENGTH, happen};
+use session::Happening;
+use session::calls::{PACKET_LENGTH, happen};
 use std::alloc::AllocError;
 
 // A peer over lent memory, and what its events came to.

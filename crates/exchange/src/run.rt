@@ -2,8 +2,8 @@
 ghost use Rattle.std.specs.Prelude.{◌≡◌, ℕ, ◌≤◌, ◌⊎◌, List, length, Err, IfOk, nat_le};
 ghost use Rattle.court_game.specs.Games.{is_input};
 ghost use Rattle.peer.specs.Refusals.{begin_checked};
-ghost use Rattle.rollback_session.specs.Refusals.{said_begun};
-ghost use Rattle.rollback_session.specs.declared.refused.Refused.{Refused as Faults};
+ghost use Rattle.session.specs.Refusals.{said_begun};
+ghost use Rattle.session.specs.declared.refused.Refused.{Refused as Faults};
 ghost use Rattle.exchange.specs.declared.run.Unplayed.TheVariants.{Refused as Unbegun, NoMemory};
 ghost use Rattle.game.specs.declared.seat.Seat.TheVariants.{Left, Right};
 ghost use Rattle.game.specs.declared.seat.Seat.{Seat as At};
@@ -13,15 +13,15 @@ ghost use Rattle.peer.specs.Lent.{log_of};
 ghost use Rattle.peer.specs.Peers.{confirmed};
 ghost use Rattle.exchange.specs.Moves.{after_moves, court_network, PeerAt};
 ghost use Rattle.exchange.specs.Agreed.{Agree};
-ghost use Rattle.rollback_session.specs.Rows.{memory};
+ghost use Rattle.session.specs.Rows.{memory};
 
 use crate::machine::Machine;
 use crate::moves::Move;
 use crate::tally::Tally;
 use game::seat::Seat;
 use peer::Peer;
-use rollback_session::Refused;
-use rollback_session::calls::begin;
+use session::Refused;
+use session::calls::begin;
 use std::alloc::{AllocError, Global};
 
 // What a machine came to.

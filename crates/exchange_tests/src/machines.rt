@@ -6,7 +6,7 @@ use game::seat::Seat;
 use peer::memory::INPUTS;
 use picture::LENGTH;
 use rollback::Outcome;
-use rollback_session::calls::begin;
+use session::calls::begin;
 use std::test::Fail;
 
 // The packet of a tick, as it is laid out, then a packet of the other's and one of which there is none.

@@ -16,7 +16,7 @@ use game::seat::Seat;
 use peer::log::HALF;
 use peer::memory::{INPUTS, MOST_STATES};
 use picture::LENGTH;
-use rollback_session::calls::status;
+use session::calls::status;
 use std::alloc::{AllocError, Global};
 use std::env;
 use std::process::ExitCode;

@@ -4,7 +4,7 @@ use Rattle.exchange.specs.declared.moves.Act.TheVariants.{Tick}
 use Rattle.exchange.specs.declared.moves.Move.{Move}
 use Rattle.peer.specs.Lent.{log_of}
 use Rattle.peer.specs.Peers.{confirmed}
-use Rattle.rollback_session.specs.Rows.{After, memory}
+use Rattle.session.specs.Rows.{After, memory}
 use Rattle.exchange.specs.Agreed.{Agree}
 use Rattle.exchange.specs.Moves.{acted, after_moves, memory_of, moves_on}
 use Rattle.exchange.proofs.Held.{flipped, holds_more, holds_all, holds_agree, holds_sure, moves_more}

@@ -5,8 +5,8 @@ use Rattle.rollback.specs.declared.outcome.Outcome.TheVariants.{Refused}
 use Rattle.peer.specs.Lent.{log_of}
 use Rattle.peer.specs.Peers.{arrival}
 use Rattle.rollback.specs.Saved.{Happened}
-use Rattle.rollback_session.specs.Events.{said}
-use Rattle.rollback_session.specs.Rows.{memory}
+use Rattle.session.specs.Events.{said}
+use Rattle.session.specs.Rows.{memory}
 use Rattle.exchange.specs.Moves.{memory_of}
 use Rattle.exchange.proofs.Machines.{delivered_at, delivered_none, none_refused_at}
 use Rattle.exchange.proofs.machine.Machine.deliver.Goals as goal

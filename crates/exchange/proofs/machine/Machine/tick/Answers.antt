@@ -2,7 +2,7 @@ use Rattle.std.proofs.Common.{◌≡◌, ℕ, true, false, leb, List, [], ◌∷
 use Rattle.network.specs.Network.{facing}
 use Rattle.peer.specs.Lent.{log_of}
 use Rattle.peer.specs.Peers.{tick, sends}
-use Rattle.rollback_session.specs.Events.{writes}
+use Rattle.session.specs.Events.{writes}
 use Rattle.std.proofs.lemmas.Slice.{pushed}
 use Rattle.exchange.specs.declared.moves.Act.TheVariants.{Tick}
 use Rattle.exchange.specs.Moves.{acted, memory_of, PacketsAt}

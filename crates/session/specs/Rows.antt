@@ -1,0 +1,25 @@
+-- A session of the court's game over a row of events. Assumes nothing: these are definitions.
+use Rattle.std.specs.Prelude.{◌≡◌, ℕ, Bool, List, Option}
+use Rattle.court_game.specs.Games.{is_input}
+use Rattle.court_game.specs.Saved.{court_saved}
+use Rattle.game.specs.declared.seat.Seat.{Seat}
+use Rattle.peer.specs.declared.numbers.Peer.{Peer}
+use Rattle.peer.specs.Peers.{Log, Event, new_log, run, sends}
+use Rattle.rollback.specs.Rows.{Memory, StandsFor}
+use Rattle.session.specs.Events.{sent, packet_over}
+
+-- the log of a peer to which a row of events happened, from its beginning
+abbrev pub log_after : ℕ → List Event → Log
+log_after window es = run is_input window new_log es
+
+abbrev pub memory : Peer → List ℕ → List ℕ → Memory
+memory p inputs states = record { peer = p; inputs = inputs; states = states }
+
+-- memory in which a session was begun and to which a row of events happened, right and wrong
+abbrev pub After : Seat → ℕ → List Event → Memory → Type 0
+After seat window es m = StandsFor court_saved seat window (log_after window es) m
+
+-- after a row of events the packet is written that the definitions give for it, and its length told; or none is, and all stays
+abbrev pub WritesOwn : ℕ → List Event → Bool → List ℕ → Option ℕ → List ℕ → Type 0
+WritesOwn window es written out length out' =
+    (length ≡ sent written (sends (log_after window es))) × (out' ≡ packet_over written (sends (log_after window es)) out)

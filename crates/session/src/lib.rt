@@ -1,0 +1,18 @@
+// A session at one machine, of the court's game: it begins over lent memory, takes one event at a call,
+// and draws what the peer shows as a picture. Nothing is allocated.
+// Rests on byte_numbers, court, court_game, game, network, packet, peer, picture and rollback.
+
+#![tactic(auto)]
+
+pub mod calls;
+pub mod event;
+pub mod file;
+pub mod refused;
+pub mod row;
+pub mod statements;
+pub mod status;
+pub mod whole;
+
+pub use event::{Answer, Happening};
+pub use refused::Refused;
+pub use status::Status;

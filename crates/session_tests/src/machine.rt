@@ -1,0 +1,56 @@
+// A session with memory of its own, which is lent to it at each call.
+use game::seat::Seat;
+use peer::Peer;
+use peer::memory::INPUTS;
+use picture::LENGTH;
+use session::calls::{PACKET_LENGTH, begin, happen, status};
+use session::file::event_at;
+use session::{Answer, Refused, Status};
+use std::alloc::Global;
+use std::test::Fail;
+
+#[derive(Drop)]
+pub(crate) struct Machine {
+    pub(crate) p: Peer,
+    pub(crate) inputs: Vec<u8>,
+    pub(crate) states: Vec<u8>,
+    // Where its packets are written.
+    pub(crate) packet: [u8; PACKET_LENGTH],
+}
+
+impl Machine {
+    // A session that has just begun, in memory that held something else before, with so many bytes for states.
+    pub(crate) fn begin(
+        heap: Global,
+        seat: Seat,
+        window: usize,
+        room: usize,
+    ) -> Result<Machine, Fail> {
+        let inputs = vec![in heap; 7u8; INPUTS]?;
+        let mut states = vec![in heap; 0u8; room]?;
+        let picture = vec![in heap; 0u8; LENGTH]?;
+        let p = begin(seat, window, &inputs, &mut states, &picture)?;
+        Ok(Machine {
+            p,
+            inputs,
+            states,
+            packet: [99; PACKET_LENGTH],
+        })
+    }
+
+    // One event, as a file has it.
+    pub(crate) fn step(&mut self, file: &[u8]) -> Result<Answer, Fail> {
+        let event = event_at(file, 0)?.event;
+        Ok(happen(
+            &mut self.p,
+            &mut self.inputs,
+            &mut self.states,
+            event,
+            &mut self.packet,
+        ))
+    }
+
+    pub(crate) fn status(&self) -> Result<Status, Refused> {
+        status(&self.p, &self.states)
+    }
+}
