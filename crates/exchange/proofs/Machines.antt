@@ -52,19 +52,6 @@ begun_at window Right m row = row
 
 -- ---- a tick
 
--- a packet is written where the input is one
-told_by : (fits goes : Bool) (a : ℕ) → writes (tick a) (cond fits (cond goes (Taken 1) Lost) (Refused Input)) ≡ fits
-told_by true true a = refl
-told_by true false a = refl
-told_by false goes a = refl
-
-pub writes_fits : (window inputs states : ℕ) (log : Log) (a : ℕ) → 2000000 ≤ inputs → (window + 1) * 64 ≤ states → writes (tick a) (said_tick (λ b. leb b 15) window inputs states log a) ≡ leb a 15
-unfolding said_tick
-writes_fits window inputs states log a h k =
-    let i : ltb inputs 2000000 ≡ false = le-ltb _ _ h in
-    let s : ltb states ((window + 1) * 64) ≡ false = le-ltb _ _ k in
-    simp (i, s) (told_by (leb a 15) (goes_on window log) a)
-
 -- the network after a tick alone
 abbrev ticked_network : ℕ → Network → Seat → ℕ → Network
 ticked_network window n seat a = court_turn window n (network.tick seat a)
@@ -106,17 +93,6 @@ acked_few seat window log m s =
     let o : length log.own ≡ p.own = ap (λ l. length l.own) (sym s.log_is) ∙ own_long p m.inputs s.roomy.inputs_long in
     omega arith
 
-message_long : (m : Message) → length (message_bytes m) ≡ message_length m
-message_long m = omega (arith, length-append (little 4 m.ack) m.inputs)
-
--- as it lies in memory
-pub sent_is : (n : ℕ) (out before : List ℕ) (m : Message) (b : Bool) → b ≡ true → n ≡ message_length m → out ≡ packet_over b m before → take n out ≡ message_bytes m
-sent_is n out before m true t e f =
-    ap (λ k. take k out) e
-    ∙ ap (take (message_length m)) f
-    ∙ take_at (message_bytes m) (drop (message_length m) before) (message_length m) (message_long m)
-sent_is n out before m false t e f = cc
-
 -- with one packet more
 pub packet_more : (window : ℕ) (n : Network) (seat : Seat) (a : ℕ) (k : Memory) (ps : List (Vec ℕ Global)) (s : Vec ℕ Global) → leb a 15 ≡ true → PacketsAt n (facing seat) ps → PeerAt window (acted window n seat (Tick a)) seat k → vec_items s ≡ message_bytes (sends (log_of k.peer k.inputs)) → PacketsAt (acted window n seat (Tick a)) (facing seat) (ps ++ s ∷ [])
 unfolding acted turn
@@ -141,19 +117,6 @@ unfolding acted turn
 packet_none window n seat a ps unfit at =
     let t : Network = ticked_network window n seat a in
     at ∙ ap (map message_bytes) (sym (ap (λ b. packets_to (cond b (sends_at window t seat) t) (facing seat)) unfit ∙ ticked_packets window n seat a))
-
--- whether one was written
-pub wrote : (seat : Seat) (window : ℕ) (log : Log) (m : Memory) (o : Outcome) (a : ℕ) → StandsFor court_saved seat window log m → o ≡ said (λ b. leb b 15) m.peer.window (length m.inputs) (length m.states) (log_of m.peer m.inputs) (tick a) → writes (tick a) o ≡ leb a 15
-wrote seat window log m o a s e =
-    ap (writes (tick a)) e ∙ writes_fits m.peer.window _ _ (log_of m.peer m.inputs) a s.roomy.inputs_long (omega arith)
-
-pub told_some : (b : Bool) (m : Message) (n : ℕ) → Some n ≡ sent b m → (b ≡ true) × (n ≡ message_length m)
-told_some true m n e = let k : n ≡ message_length m = cc in (refl, k)
-told_some false m n e = (cc, cc)
-
-pub told_none : (b : Bool) (m : Message) → None ≡ sent b m → b ≡ false
-told_none true m e = cc
-told_none false m e = refl
 
 -- ---- a packet that comes
 

@@ -50,7 +50,8 @@ module _ (fits : ℕ → Bool) (window : ℕ) where
   abbrev pub Ran : Log → Log → Type 0
   Ran log to = (es : List Event) × (to ≡ run fits window log es)
 
-  run_append : (log : Log) (es fs : List Event) → run fits window log (es ++ fs) ≡ run fits window (run fits window log es) fs
+  -- rows of events one behind the other
+  pub run_append : (log : Log) (es fs : List Event) → run fits window log (es ++ fs) ≡ run fits window (run fits window log es) fs
   unfolding run
   run_append log [] fs = refl
   run_append log (e ∷ es) fs = run_append (event fits window log e) es fs

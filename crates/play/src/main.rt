@@ -8,6 +8,15 @@
 
 #![tactic(auto)]
 
+ghost use Rattle.std.specs.Prelude.{◌≡◌, ℕ, List, [], ◌++◌, drop, IfOk, OnOk};
+ghost use Rattle.court_game.specs.Games.{court_game};
+ghost use Rattle.game.specs.declared.seat.Seat.{Seat as At};
+ghost use Rattle.peer.specs.Peers.{Event, shows};
+ghost use Rattle.picture.specs.Picture.{picture_of};
+ghost use Rattle.recording.specs.Matches.{match_bytes, match_of};
+ghost use Rattle.session.specs.Files.{FileOf};
+ghost use Rattle.session.specs.Rows.{After, letters as letters_of, log_after, memory as memory_of};
+
 use anyhow::{Context, anyhow};
 use game::seat::Seat;
 use peer::Peer;
@@ -17,8 +26,8 @@ use recording::layout::length_of;
 use recording::write::write;
 use rollback::Outcome;
 use session::Refused;
-use session::calls::{PACKET_LENGTH, begin, check_lent, draw, happen, status};
-use session::file::arrival_head;
+use session::calls::{begin, check_lent, draw, status};
+use session::letters::happen_keeping;
 use session::row::Row;
 use std::alloc::{AllocError, Global};
 use std::process::ExitCode;
@@ -87,7 +96,9 @@ impl Memory {
     }
 
     // A session for a file of events: first what does not let it begin is refused, and then a file that is no row of events.
-    fn begin<'a>(&mut self, options: &Options, file: &'a [u8]) -> Result<(Peer, Row<'a>), Refused> {
+    fn begin<'a>(&mut self, options: &Options, file: &'a [u8]) -> Result<(Peer, Row<'a>), Refused>
+        ensures { IfOk result (λ r. After options.now.seat options.now.window [] (memory_of r.0 self.new.inputs.items self.new.states.items) × (r.1.file.now ≡ file.now)) }
+    {
         check_lent(options.window, &self.inputs, &self.states, &self.picture)?;
         let row = Row::of(file)?;
         let p = begin(
@@ -116,56 +127,65 @@ fn print_outcome(
     Ok(())
 }
 
+// Draws what the peer shows, and prints the picture's text.
 fn print_picture(
     rt: &HostRuntime,
     p: &Peer,
     states: &[u8],
     picture: &mut [u8],
-) -> anyhow::Result<()> {
+) -> anyhow::Result<()>
+    ensures { OnOk result ((seat : At) (window : ℕ) (es : List Event) (inputs : List ℕ) → After seat window es (memory_of p.now inputs states.now) → picture.new ≡ picture_of (shows court_game seat (log_after window es)) ++ drop 19200 picture.old) }
+{
     draw(p, states, picture)?;
     print!(rt; "{}", text_of(rt.alloc(), picture)?)?;
     Ok(())
 }
 
-// A packet that this peer sent, as an event of the other's.
-fn keep_packet(letters: &mut Vec<u8>, packet: &[u8]) -> anyhow::Result<()> {
-    let length = u16::try_from(packet.len())?;
-    letters.extend_from_slice(&arrival_head(length))?;
-    letters.extend_from_slice(packet)?;
+// The line for an event, and the picture if it is asked for.
+fn tell(
+    rt: &HostRuntime,
+    p: &Peer,
+    states: &[u8],
+    picture: &mut [u8],
+    show: bool,
+    outcome: Outcome,
+) -> anyhow::Result<()> {
+    print_outcome(rt, p, states, outcome)?;
+    if show {
+        print_picture(rt, p, states, picture)?;
+    }
     Ok(())
 }
 
-// All events of a row, each with its line. Hands back the packets that were sent.
+// All events of a row, each with its line. Hands back the packets that were sent: those that the definitions give the row.
 fn play(
     rt: &HostRuntime,
     p: &mut Peer,
     memory: &mut Memory,
     row: Row,
     show: bool,
-) -> anyhow::Result<Vec<u8>> {
-    let mut packet = [0; PACKET_LENGTH];
+) -> anyhow::Result<Vec<u8>>
+    ensures row { OnOk result ((seat : At) (window : ℕ) (before es : List Event) → After seat window before (memory_of p.old memory.old.inputs.items memory.old.states.items) → FileOf es row.entry.file.now → After seat window (before ++ es) (memory_of p.new memory.new.inputs.items memory.new.states.items)) }
+    ensures letters { IfOk result (λ l. (seat : At) (window : ℕ) (before es : List Event) → After seat window before (memory_of p.old memory.old.inputs.items memory.old.states.items) → FileOf es row.entry.file.now → l.items ≡ letters_of window (log_after window before) es) }
+{
     let mut letters = Vec::new(rt.alloc());
     for event in row.events() {
-        let answer = happen(
+        let outcome = happen_keeping(
             p,
             &mut memory.inputs,
             &mut memory.states,
             event?,
-            &mut packet,
-        );
-        print_outcome(rt, p, &memory.states, answer.outcome)?;
-        if show {
-            print_picture(rt, p, &memory.states, &mut memory.picture)?;
-        }
-        if let Some(length) = answer.sent {
-            keep_packet(&mut letters, &packet[..length])?;
-        }
+            &mut letters,
+        )?;
+        tell(rt, p, &memory.states, &mut memory.picture, show, outcome)?;
     }
     Ok(letters)
 }
 
 // The recording of what the peer is sure of.
-fn recording_of(heap: Global, p: &Peer, inputs: &[u8]) -> anyhow::Result<Vec<u8>> {
+fn recording_of(heap: Global, p: &Peer, inputs: &[u8]) -> anyhow::Result<Vec<u8>>
+    ensures row { IfOk result (λ bytes. (seat : At) (window : ℕ) (es : List Event) (states : List ℕ) → After seat window es (memory_of p.now inputs.now states) → bytes.items ≡ match_bytes (match_of seat window (log_after window es))) }
+{
     let mut bytes = vec![in heap; 0u8; length_of(p)]?;
     write(p, inputs, &mut bytes).map_err(|_| anyhow!("play: no room for a recording"))?;
     Ok(bytes)

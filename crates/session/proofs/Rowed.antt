@@ -6,6 +6,7 @@ use Rattle.court_game.specs.Games.{court_game}
 use Rattle.court.specs.declared.state.State.{State}
 use Rattle.network.specs.Promise.{Stays}
 use Rattle.network.proofs.OnePeer.{stays_sure}
+use Rattle.network.proofs.Rows.{run_append}
 use Rattle.peer.specs.Lent.{log_of}
 use Rattle.packet.specs.Wire.{message_length}
 use Rattle.peer.specs.Peers.{Log, Event, event, new_log, run, sends}
@@ -15,10 +16,9 @@ use Rattle.rollback.proofs.Rowed.{stands_begun, stands_more}
 use Rattle.session.specs.Events.{packet_over}
 use Rattle.session.specs.Rows.{After, WritesOwn, log_after}
 
-pub run_push : (fits : ℕ → Bool) (window : ℕ) (log : Log) (es : List Event) (e : Event) → run fits window log (es ++ e ∷ []) ≡ event fits window (run fits window log es) e
+pub run_push : (window : ℕ) (es : List Event) (e : Event) → log_after window (es ++ e ∷ []) ≡ event (λ b. leb b 15) window (log_after window es) e
 unfolding run
-run_push fits window log [] e = refl
-run_push fits window log (d ∷ es) e = run_push fits window (event fits window log d) es e
+run_push window es e = run_append (λ b. leb b 15) window new_log es (e ∷ [])
 
 pub after_none : (seat : Seat) (window : ℕ) (m : Memory) → Begun court_saved seat window m.peer m.inputs m.states → After seat window [] m
 unfolding run
@@ -27,7 +27,7 @@ after_none seat window m b = stands_begun court_saved seat window m b
 pub after_more : (seat : Seat) (window : ℕ) (es : List Event) (e : Event) (m n : Memory) → Happened court_saved m.peer m.inputs m.states e n.peer n.inputs n.states → After seat window es m → After seat window (es ++ e ∷ []) n
 after_more seat window es e m n h a =
     let P : Log → Type 0 = λ log. StandsFor court_saved seat window log n in
-    subst P (sym (run_push (λ b. leb b 15) window new_log es e)) (stands_more court_saved seat window (log_after window es) m n e a h)
+    subst P (sym (run_push window es e)) (stands_more court_saved seat window (log_after window es) m n e a h)
 
 -- what was confirmed stays so
 pub stays_on : (seat : Seat) (window : ℕ) (es : List Event) (e : Event) (m n : Memory) → Happened court_saved m.peer m.inputs m.states e n.peer n.inputs n.states → After seat window es m → Stays court_game seat (log_of m.peer m.inputs) (log_of n.peer n.inputs)

@@ -1,12 +1,14 @@
 -- A session of the court's game over a row of events. Assumes nothing: these are definitions.
-use Rattle.std.specs.Prelude.{◌≡◌, ℕ, Bool, List, Option}
+use Rattle.std.specs.Prelude.{◌≡◌, ℕ, Bool, false, cond, List, [], ◌∷◌, ◌++◌, Option}
 use Rattle.court_game.specs.Games.{is_input}
 use Rattle.court_game.specs.Saved.{court_saved}
 use Rattle.game.specs.declared.seat.Seat.{Seat}
+use Rattle.packet.specs.Wire.{message_bytes}
 use Rattle.peer.specs.declared.numbers.Peer.{Peer}
-use Rattle.peer.specs.Peers.{Log, Event, new_log, run, sends}
+use Rattle.peer.specs.Peers.{Log, Event, tick, arrival, event, new_log, run, sends}
 use Rattle.rollback.specs.Rows.{Memory, StandsFor}
 use Rattle.session.specs.Events.{sent, packet_over}
+use Rattle.session.specs.Files.{event_bytes}
 
 -- the log of a peer to which a row of events happened, from its beginning
 abbrev pub log_after : ℕ → List Event → Log
@@ -23,3 +25,17 @@ After seat window es m = StandsFor court_saved seat window (log_after window es)
 abbrev pub WritesOwn : ℕ → List Event → Bool → List ℕ → Option ℕ → List ℕ → Type 0
 WritesOwn window es written out length out' =
     (length ≡ sent written (sends (log_after window es))) × (out' ≡ packet_over written (sends (log_after window es)) out)
+
+-- ---- all that is sent
+
+-- whether a packet is written for an event, where memory is long enough: after a tick with an input of the game
+abbrev pub tells : Event → Bool
+tells (tick a) = is_input a
+tells (arrival xs) = false
+
+-- the packets that a peer writes over a row of events, as events of the other's file
+unfoldable pub letters : ℕ → Log → List Event → List ℕ
+letters window log [] = []
+letters window log (e ∷ es) =
+    cond (tells e) (event_bytes (arrival (message_bytes (sends (event is_input window log e))))) []
+    ++ letters window (event is_input window log e) es

@@ -7,6 +7,7 @@
 pub mod calls;
 pub mod event;
 pub mod file;
+pub mod letters;
 pub mod refused;
 pub mod row;
 pub mod statements;

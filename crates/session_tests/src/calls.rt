@@ -4,7 +4,7 @@ use court::state::Score;
 use game::seat::Seat;
 use peer::Refusal;
 use rollback::Outcome;
-use session::{Answer, Refused, Status};
+use session::{Answer, Happening, Refused, Status};
 use std::test::*;
 
 fn answer(outcome: Outcome, sent: Option<usize>) -> Answer {
@@ -44,6 +44,34 @@ fn packets_are_written(rt: HostRuntime) -> Result<(), Fail> {
     assert_eq!(rt; machine.step(&[0, 2])?, next);
     let two = [b'H', 2, 0, 0, 0, 2, 3, 0, 0, 0, 1, 2, 1, 99];
     assert_eq!(rt; machine.packet.first_chunk(), Some(&two));
+    Ok(())
+}
+
+// The packets of all ticks behind one another, as events of the other's file: a lost tick sends one too, and what comes or is refused none.
+#[test]
+fn letters_are_kept(rt: HostRuntime) -> Result<(), Fail> {
+    let mut machine = Machine::begin(rt.alloc(), Seat::Left, 1, 128)?;
+    let came = [b'H', 0, 0, 0, 0, 1, 1, 0, 0, 0, 8];
+    let events = [
+        Happening::Tick(4),
+        Happening::Tick(5),
+        Happening::Tick(16),
+        Happening::Arrival(&came),
+        Happening::Tick(6),
+    ];
+    let mut letters = Vec::new(rt.alloc());
+    letters.push(77)?;
+    for event in events {
+        machine.keep(event, &mut letters)?;
+    }
+    let first = [1, 11, 0, b'H', 0, 0, 0, 0, 1, 0, 0, 0, 0, 4];
+    let last = [1, 11, 0, b'H', 1, 0, 0, 0, 1, 1, 0, 0, 0, 6];
+    let mut all = Vec::new(rt.alloc());
+    all.push(77)?;
+    all.extend_from_slice(&first)?;
+    all.extend_from_slice(&first)?;
+    all.extend_from_slice(&last)?;
+    assert_eq!(rt; letters.as_slice(), all.as_slice());
     Ok(())
 }
 

@@ -3,10 +3,12 @@ use game::seat::Seat;
 use peer::Peer;
 use peer::memory::INPUTS;
 use picture::LENGTH;
+use rollback::Outcome;
 use session::calls::{PACKET_LENGTH, begin, happen, status};
 use session::file::event_at;
-use session::{Answer, Refused, Status};
-use std::alloc::Global;
+use session::letters::happen_keeping;
+use session::{Answer, Happening, Refused, Status};
+use std::alloc::{AllocError, Global};
 use std::test::Fail;
 
 #[derive(Drop)]
@@ -48,6 +50,21 @@ impl Machine {
             event,
             &mut self.packet,
         ))
+    }
+
+    // One event, and its packet behind those before.
+    pub(crate) fn keep(
+        &mut self,
+        event: Happening,
+        letters: &mut Vec<u8>,
+    ) -> Result<Outcome, AllocError> {
+        happen_keeping(
+            &mut self.p,
+            &mut self.inputs,
+            &mut self.states,
+            event,
+            letters,
+        )
     }
 
     pub(crate) fn status(&self) -> Result<Status, Refused> {

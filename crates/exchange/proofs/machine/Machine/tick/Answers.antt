@@ -6,7 +6,8 @@ use Rattle.session.specs.Events.{writes}
 use Rattle.std.proofs.lemmas.Slice.{pushed}
 use Rattle.exchange.specs.declared.moves.Act.TheVariants.{Tick}
 use Rattle.exchange.specs.Moves.{acted, memory_of, PacketsAt}
-use Rattle.exchange.proofs.Machines.{ticked_at, packet_more, packet_none, wrote, told_some, told_none, sent_is}
+use Rattle.exchange.proofs.Machines.{ticked_at, packet_more, packet_none}
+use Rattle.session.proofs.Sent.{wrote, told_some, told_none, sent_is}
 use Rattle.exchange.proofs.machine.Machine.tick.Goals as goal
 
 pub returns-in_ok-push-clause-at : goal.returns-in_ok-push-clause-at
@@ -19,7 +20,7 @@ returns-in_ok-push-clause-at c = λ window n seat stands at.
     let did = c.happen-answer.ensures in
     let peer = ticked_at window n seat a m _ stands did.happens in
     let told = told_some b (sends log) c.in-Some.length (sym c.in-Some.is ∙ did.sent) in
-    let fit : leb a 15 ≡ true = sym (wrote seat window _ m o a stands did.answer) ∙ told.0 in
+    let fit : leb a 15 ≡ true = sym (wrote seat window _ m o (tick a) stands did.answer) ∙ told.0 in
     let items = pushed (_ ∷ []) refl c.in_ok-push.was c.push.ensures.items in
     let bytes = c.in_ok-to_vec.ensures.items_if_clones_equal (λ x y h. h) in
     let P : List (Vec ℕ Global) → Type 0 = λ ps. PacketsAt (acted window n seat (Tick a)) (facing seat) ps in
@@ -34,5 +35,5 @@ returns-in_default-clause-at c = λ window n seat stands at.
     let b = writes (tick a) o in
     let did = c.happen-answer.ensures in
     let none : b ≡ false = told_none b (sends log) (sym c.in_default.is ∙ did.sent) in
-    let unfit : leb a 15 ≡ false = sym (wrote seat window _ m o a stands did.answer) ∙ none in
+    let unfit : leb a 15 ≡ false = sym (wrote seat window _ m o (tick a) stands did.answer) ∙ none in
     (ticked_at window n seat a m _ stands did.happens, packet_none window n seat a _ unfit at)
