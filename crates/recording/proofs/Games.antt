@@ -17,7 +17,7 @@ use Rattle.packet.specs.Wire.{Message, inputs_in, start_checked, rest_checked, r
 use Rattle.packet.proofs.Checks.{fit_from_bad}
 use Rattle.peer.specs.Peers.{Log, Event, tick, arrival, new_log, goes_on, joined, heard, event, run, confirmed_at}
 use Rattle.peer.specs.declared.numbers.Peer.{Peer}
-use Rattle.peer.specs.Lent.{Long, log_of}
+use Rattle.peer.specs.Lent.{Long, log_of, with_own}
 use Rattle.recording.specs.Games.{HoldsGame}
 use Rattle.recording.specs.Matches.{Match, frame_byte, frame_bytes, match_of, after_frames, match_bytes, match_length}
 use Rattle.recording.specs.Reading.{reading, Proper}
@@ -27,10 +27,10 @@ use Rattle.recording.proofs.Whole.{frames_by, frames_long}
 
 -- ---- inputs have four bits, whatever events came
 
-abbrev pub Inputs : List ℕ → Type 0
+abbrev Inputs : List ℕ → Type 0
 Inputs xs = AllByRecursion (λ a. a ≤ 15) xs
 
-pub record FourBits (log : Log) : Type 0 where
+record FourBits (log : Log) : Type 0 where
   pub own : Inputs log.own
   pub other : Inputs log.other
 
@@ -58,8 +58,7 @@ joined_inputs xs m h k =
 bits_event : (window : ℕ) (log : Log) (e : Event) → FourBits log → FourBits (event is_input window log e)
 unfolding event
 bits_event window log (tick a) h =
-    let more : Log = record { own = log.own ++ a ∷ []; other = log.other; acked = log.acked } in
-    cond_both (leb a 15 && goes_on window log) more log FourBits
+    cond_both (leb a 15 && goes_on window log) (with_own log a) log FourBits
     (λ e. record { own = All-push (λ b. b ≤ 15) log.own a h.own (leb-true a 15 (and_parts (leb a 15) (goes_on window log) e).0); other = h.other })
     (λ _. h)
 bits_event window log (arrival xs) h = by (packet_reading (length log.own) xs) refl

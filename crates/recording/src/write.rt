@@ -73,7 +73,7 @@ fn put_confirmed(peer: &Peer, inputs: &[u8], frames: &mut [u8])
 }
 
 // Writes the recording of what a peer is sure of, and hands back its length. What lies behind it stays, and a refusal changes
-// nothing.
+// nothing. Whatever events came, what is written is read, and is the game that the peer is sure of.
 #[tactic(auto, using(crate::proofs::Whole::confirmed_is, crate::proofs::Whole::frames_long))]
 pub fn write(p: &Peer, inputs: &[u8], out: &mut [u8]) -> Result<usize, Unwritten>
     ensures answer { result ≡ writing (length inputs.now) (confirmed (log_of p.now inputs.now)) (length out.old) }
