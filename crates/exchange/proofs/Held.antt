@@ -1,5 +1,5 @@
 -- Both machines' memory along a row of moves. Assumes nothing.
-use Rattle.std.proofs.Common.{◌≡◌, ℕ, Vec, Global, ◌+◌, ◌<◌, ◌≤◌, Bool, true, false, cond, leb, List, [], ◌∷◌, ◌++◌, map, length, get_or, take, sym, refl, ap, ◌∙◌, subst, arith}
+use Rattle.std.proofs.Common.{◌≡◌, ℕ, Vec, Global, ◌+◌, ◌<◌, ◌≤◌, Bool, true, false, cond, leb, List, [], ◌∷◌, ◌++◌, map, length, get_or, take, sym, refl, ap, ap₂, ◌∙◌, subst, arith}
 use Rattle.std.proofs.lemmas.List.{take_all, take_more}
 use Rattle.court_game.specs.Games.{court_game}
 use Rattle.court_game.specs.Saved.{court_saved}
@@ -15,6 +15,9 @@ use Rattle.network.proofs.Rows.{turns_push, not_far}
 use Rattle.packet.specs.Wire.{message_bytes}
 use Rattle.peer.specs.Lent.{log_of}
 use Rattle.peer.specs.Peers.{Log, confirmed}
+use Rattle.recording.specs.Matches.{frame_bytes, match_of, match_bytes}
+use Rattle.recording.proofs.Frames.{take_frames}
+use Rattle.recording.proofs.Whole.{frames_by}
 use Rattle.rollback.specs.Rows.{Memory, StandsFor}
 use Rattle.exchange.specs.declared.moves.Move.{Move}
 use Rattle.exchange.specs.declared.moves.Act.{Act}
@@ -108,16 +111,32 @@ after_network window ms = moves_network window new_network ms ([], refl)
 
 -- ---- so both agree
 
+-- recordings of the same inputs
+same_frames : (window : ℕ) (left right : Log) (k : ℕ) → take k left.own ≡ take k right.other → take k left.other ≡ take k right.own → take k (match_of Left window left).frames ≡ take k (match_of Right window right).frames
+same_frames window left right k e f =
+    take_frames left.own left.other k ∙ ap₂ frame_bytes e f ∙ sym (take_frames right.other right.own k)
+
+same_recording : (window : ℕ) (left right : Log) → confirmed left ≡ confirmed right → take (confirmed left) (match_of Left window left).frames ≡ take (confirmed left) (match_of Right window right).frames → match_bytes (match_of Left window left) ≡ match_bytes (match_of Right window right)
+same_recording window left right e f =
+    let n : ℕ = confirmed left in
+    let l = take_all n (match_of Left window left).frames (omega (arith, frames_by Left window left)) in
+    let r = take_all n (match_of Right window right).frames (omega (arith, frames_by Right window right)) in
+    ap (λ fs. match_bytes (record { window = window; frames = fs })) (sym l ∙ f ∙ r)
+
 network_agrees : (window : ℕ) (ts : List Turn) → Agree window (court_network window ts).left (court_network window ts).right
 network_agrees window ts =
     let left = same_inputs (λ b. leb b 15) window ts narrow Left in
     let right = same_inputs (λ b. leb b 15) window ts narrow Right in
+    let n : Network = court_network window ts in
+    let frames = λ (k : ℕ) (h : k ≤ confirmed n.left) (l : k ≤ confirmed n.right). same_frames window n.left n.right k (left.1 k h l) (sym (right.1 k l h)) in
     record {
       left_begins = left.0;
       right_begins = right.0;
       left_same = λ k h l. left.1 k h l;
       right_same = λ k h l. sym (right.1 k l h);
       one_game = λ k h l. one_game State court_game (λ b. leb b 15) window ts narrow k h l;
+      same_frames = frames;
+      same_recording = λ e. same_recording window n.left n.right e (frames (confirmed n.left) (omega arith) (omega arith));
       left_near = not_far (λ b. leb b 15) window ts Left;
       right_near = not_far (λ b. leb b 15) window ts Right;
     }

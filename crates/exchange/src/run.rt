@@ -64,8 +64,8 @@ impl From<Refused> for Unplayed {
 }
 
 // Both machines begin, and all moves are made. Whatever the radio loses, doubles, delays or exchanges: both memories are those of the
-// network after these moves, and both are sure of one and the same game; of all frames that both had played when a packet of each
-// was written that then came to the other.
+// network after these moves, and both are sure of one and the same game, with the same bytes in both recordings; of all frames that
+// both had played when a packet of each was written that then came to the other.
 // Each lent slice is a parameter: clauses would call what a struct of them leaves `left.exit.0`, and by `&mut` it cannot be passed on to
 // `begin` yet.
 pub fn play_moves(

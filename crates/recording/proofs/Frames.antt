@@ -43,6 +43,14 @@ length_frames [] ys = omega arith
 length_frames (x ∷ xs) [] = omega arith
 length_frames (x ∷ xs) (y ∷ ys) = let e = length_frames xs ys in omega arith
 
+-- the first frames are those of the first inputs
+pub take_frames : (xs ys : List ℕ) (k : ℕ) → take k (frame_bytes xs ys) ≡ frame_bytes (take k xs) (take k ys)
+unfolding frame_bytes
+take_frames xs ys zero = refl
+take_frames [] ys (suc k) = refl
+take_frames (x ∷ xs) [] (suc k) = refl
+take_frames (x ∷ xs) (y ∷ ys) (suc k) = ap (λ zs. frame_byte x y ∷ zs) (take_frames xs ys k)
+
 -- ---- states
 
 -- some frames more
@@ -81,13 +89,7 @@ length_marks fs (suc m) =
 
 -- frames as far as both seats have inputs
 frames_min : (xs ys : List ℕ) (n : ℕ) → n ≡ min (length xs) (length ys) → frame_bytes (take n xs) (take n ys) ≡ frame_bytes xs ys
-unfolding frame_bytes
-frames_min [] ys zero e = refl
-frames_min [] ys (suc n) e = refl
-frames_min (x ∷ xs) [] zero e = refl
-frames_min (x ∷ xs) [] (suc n) e = let no : ⊥ = omega arith in absurd no
-frames_min (x ∷ xs) (y ∷ ys) zero e = let no : ⊥ = omega arith in absurd no
-frames_min (x ∷ xs) (y ∷ ys) (suc n) e = ap (λ zs. frame_byte x y ∷ zs) (frames_min xs ys n (omega arith))
+frames_min xs ys n e = sym (take_frames xs ys n) ∙ take_all n (frame_bytes xs ys) (omega (arith, length_frames xs ys))
 
 -- ---- a peer's frames
 

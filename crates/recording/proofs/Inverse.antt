@@ -30,7 +30,7 @@ states_are m p =
     ∙ drop_at m.frames (marks m.frames (length m.frames / 600)) (count_in (match_bytes m)) (sym (count_is m p))
     ∙ sym (due_is m p)
 
-written_long : (m : Match) → length (match_bytes m) ≡ 8 + (length m.frames + 64 * (length m.frames / 600))
+pub written_long : (m : Match) → length (match_bytes m) ≡ 8 + (length m.frames + 64 * (length m.frames / 600))
 written_long m =
     let fs : List ℕ = m.frames in
     let ms : List ℕ = marks fs (length fs / 600) in

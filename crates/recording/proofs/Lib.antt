@@ -1,6 +1,7 @@
 pub mod Checks
 pub mod Differences
 pub mod Frames
+pub mod Games
 pub mod Inverse
 pub mod Lowest
 pub mod Marked

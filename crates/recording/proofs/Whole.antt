@@ -28,7 +28,7 @@ written_whole xs head frames states m n long e f g =
     ∙ simp append_assoc
 
 -- how many frames a match has
-frames_by : (seat : Seat) (window : ℕ) (log : Log) → length (match_of seat window log).frames ≡ confirmed log
+pub frames_by : (seat : Seat) (window : ℕ) (log : Log) → length (match_of seat window log).frames ≡ confirmed log
 frames_by Left window log = length_frames log.own log.other
 frames_by Right window log = omega (arith, length_frames log.other log.own)
 

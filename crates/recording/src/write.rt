@@ -1,8 +1,9 @@
 // A recording as bytes, in lent memory.
-ghost use Rattle.std.specs.Prelude.{◌≡◌, ◌*◌, ◌/◌, ◌≤◌, min, ◌∷◌, ◌++◌, length, drop};
+ghost use Rattle.std.specs.Prelude.{◌≡◌, ◌*◌, ◌/◌, ◌≤◌, min, ◌∷◌, ◌++◌, length, take, drop, IfOk};
 ghost use Rattle.byte_numbers.specs.Little.{little};
 ghost use Rattle.peer.specs.Lent.{Long, log_of};
 ghost use Rattle.peer.specs.Peers.{confirmed};
+ghost use Rattle.recording.specs.Games.{HoldsGame};
 ghost use Rattle.recording.specs.Matches.{frame_bytes, marks, match_of};
 ghost use Rattle.recording.specs.Writing.{writing, written_over};
 
@@ -72,11 +73,12 @@ fn put_confirmed(peer: &Peer, inputs: &[u8], frames: &mut [u8])
 }
 
 // Writes the recording of what a peer is sure of, and hands back its length. What lies behind it stays, and a refusal changes
-// nothing.
+// nothing. Whatever events came, what is written is read, and is the game that the peer is sure of.
 #[tactic(auto, using(crate::proofs::Whole::confirmed_is, crate::proofs::Whole::frames_long))]
 pub fn write(p: &Peer, inputs: &[u8], out: &mut [u8]) -> Result<usize, Unwritten>
     ensures answer { result ≡ writing (length inputs.now) (confirmed (log_of p.now inputs.now)) (length out.old) }
     ensures bytes { out.new ≡ written_over (length inputs.now) (match_of p.now.seat p.now.window (log_of p.now inputs.now)) out.old }
+    ensures game { IfOk result (λ n. HoldsGame p.now.seat p.now.window (log_of p.now inputs.now) (take n out.new)) }
 {
     check_inputs(inputs).map_err(|_| Unwritten::Inputs)?;
     let count = p.confirmed();
