@@ -14,18 +14,21 @@ use std::mem;
 
 const WINDOW: usize = 20;
 
-// A packet comes 2 to 17 ticks later, if it is not lost: one of so many is.
+// A packet comes 2 to 17 ticks later.
 const SOONEST: usize = 2;
 
 const LATEST: usize = 17;
 
-const CHANCES: u64 = 8;
+// A constant's value calls no `from`.
+const DELAYS: u64 = (LATEST - SOONEST + 1) as u64;
 
-const LATE: u64 = 16;
+// Of so many packets one is lost.
+const CHANCES: u64 = 8;
 
 const FLIGHTS: usize = 32;
 
-// Numbers by the seed: each state is the one before times FACTOR, plus ADDED.
+// Numbers by the seed: each state is the one before times FACTOR, plus ADDED. `radio` has them too: a library for two functions
+// would be longer.
 #[derive(Drop)]
 pub struct Random(pub u64);
 
@@ -48,7 +51,7 @@ impl Random {
         ensures { IfSome result (λ d. d ≤ 17) }
     {
         let lost = self.below(CHANCES) == 0;
-        let late = self.below(LATE) as usize;
+        let late = self.below(DELAYS) as usize;
         if lost { None } else { Some(SOONEST + late) }
     }
 }
@@ -72,7 +75,7 @@ impl Air {
     }
 }
 
-// A peer, the memory that it is lent, and what its events came to.
+// A peer, the memory that it is lent, and what its events came to. It is not `exchange`'s, which keeps all packets.
 #[derive(Drop)]
 pub struct Machine {
     peer: Peer,

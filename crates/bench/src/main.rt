@@ -5,15 +5,11 @@
 //     bench rollback TICKS TIMES FILE
 //                              plays games of two peers over a lossy radio, with a file of frames as inputs; prints where both stand
 //                              after the last, how many events there were and how many frames were played for them
-//     bench recording FILE TIMES
-//                              reads a recording, each time with another window; prints the sum of the windows and frames read
 #![tactic(auto)]
 
 mod games;
-mod matches;
 
 use crate::games::{Machine, Random, play_game};
-use crate::matches::recordings;
 use anyhow::{anyhow, bail};
 use court::{Court, Input};
 use game::seat::Seat;
@@ -22,8 +18,7 @@ use picture::{LENGTH, draw};
 use std::process::ExitCode;
 use std::{env, fs};
 
-const USAGE: &str =
-    "usage: bench pictures|packets COUNT | rollback TICKS TIMES FILE | recording FILE TIMES";
+const USAGE: &str = "usage: bench pictures|packets COUNT | rollback TICKS TIMES FILE";
 
 // Numbers of the rules and of a packet's bytes stand here once more: `court` and `packet` keep theirs to themselves.
 
@@ -123,10 +118,6 @@ fn run_rollback(rt: &HostRuntime, ticks: usize, times: u32, frames: &[u8]) -> an
     Ok(())
 }
 
-fn run_recording(rt: &HostRuntime, times: u32, bytes: &mut [u8]) -> anyhow::Result<()> {
-    print_sum(rt, recordings(times, bytes)?)
-}
-
 fn read_file(rt: &HostRuntime, path: &str) -> anyhow::Result<Vec<u8>> {
     fs::read(rt, path).map_err(|e| anyhow!("bench: {path}: {e}"))
 }
@@ -145,10 +136,6 @@ fn run(rt: &HostRuntime) -> anyhow::Result<()> {
         ("rollback", [ticks, times, file]) => {
             let frames = read_file(rt, file)?;
             run_rollback(rt, ticks.parse()?, times.parse()?, &frames)
-        }
-        ("recording", [file, times]) => {
-            let mut bytes = read_file(rt, file)?;
-            run_recording(rt, times.parse()?, &mut bytes)
         }
         _ => bail!(USAGE),
     }

@@ -1,12 +1,12 @@
-//! Recordings read in Rust, for comparison with the proved reader.
+//! A recording as a program in Rust, for comparison with the proved one: the same file, the same lines of output.
 //!
-//!     recording recording FILE TIMES   reads a recording, each time with another window, and prints the sum of the windows and frames
-//!     recording make FRAMES OUT        writes the recording of a file of frames, with window 20
+//!     replay FILE BEAT         reads and checks a recording, and prints the score after a frame and the picture
+//!     replay make FRAMES OUT   writes the recording of a file of frames, with window 20
 
-#[allow(dead_code)]
 mod court;
+mod picture;
 
-use court::State;
+use court::{Ball, Paddle, State};
 use std::{env, fs, process::ExitCode};
 
 const MARK: [u8; 3] = *b"REC";
@@ -14,8 +14,10 @@ const EVERY: usize = 600;
 const STATE_BYTES: usize = 64;
 
 struct Recording<'a> {
+    #[allow(dead_code)]
     window: u8,
     frames: &'a [u8],
+    states: &'a [u8],
 }
 
 #[allow(dead_code)]
@@ -39,13 +41,28 @@ fn state_bytes(s: &State) -> [u8; STATE_BYTES] {
     bytes
 }
 
+fn state_in(bytes: &[u8]) -> State {
+    let number = |at: usize| i32::from_le_bytes(bytes[at..at + 4].try_into().unwrap());
+    State {
+        ball: Ball { x: number(0), y: number(4), dx: number(8), dy: number(12) },
+        left: Paddle { x: number(16), y: number(20) },
+        right: Paddle { x: number(24), y: number(28) },
+        score: [bytes[32], bytes[33]],
+        wait: bytes[34],
+    }
+}
+
+fn play(state: &mut State, frames: &[u8]) {
+    for frame in frames {
+        state.advance(frame % 16, frame / 16);
+    }
+}
+
 /// The states after every 600th of the frames.
 fn saved_states(frames: &[u8]) -> impl Iterator<Item = [u8; STATE_BYTES]> + '_ {
     let mut state = State::start();
     frames.chunks_exact(EVERY).map(move |part| {
-        for frame in part {
-            state.advance(frame % 16, frame / 16);
-        }
+        play(&mut state, part);
         state_bytes(&state)
     })
 }
@@ -89,7 +106,19 @@ impl<'a> Recording<'a> {
         if states.len() > due {
             return Err(Fault::TooLong(at + due));
         }
-        Ok(Recording { window, frames })
+        Ok(Recording { window, frames, states })
+    }
+
+    /// The state after a frame, from the last that is saved before it; none beyond the last frame.
+    fn state_after(&self, frame: usize) -> Option<State> {
+        let played = self.frames.get(..frame)?;
+        let marks = frame / EVERY;
+        let mut state = match marks.checked_sub(1) {
+            None => State::start(),
+            Some(last) => state_in(&self.states[STATE_BYTES * last..STATE_BYTES * marks]),
+        };
+        play(&mut state, &played[EVERY * marks..]);
+        Some(state)
     }
 }
 
@@ -102,6 +131,25 @@ fn make(frames: &[u8]) -> Vec<u8> {
     bytes
 }
 
+/// A line for each row, a character for each dot.
+fn text_of(picture: &[u8]) -> String {
+    let mut text = String::with_capacity(picture.len() + picture.len() / picture::WIDTH);
+    for row in picture.chunks(picture::WIDTH) {
+        text.extend(row.iter().map(|dot| char::from(b".|o#*"[usize::from(*dot)])));
+        text.push('\n');
+    }
+    text
+}
+
+fn show(bytes: &[u8], frame: usize) {
+    let recording = Recording::read(bytes).expect("it is a recording");
+    let state = recording.state_after(frame).expect("it has so many frames");
+    let mut picture = vec![0; picture::LENGTH];
+    picture::draw(&state, &mut picture);
+    println!("beat {frame} of {} points {} {}", recording.frames.len(), state.score[0], state.score[1]);
+    print!("{}", text_of(&picture));
+}
+
 fn main() -> ExitCode {
     let args: Vec<String> = env::args().skip(1).collect();
     match args.iter().map(String::as_str).collect::<Vec<_>>()[..] {
@@ -109,19 +157,12 @@ fn main() -> ExitCode {
             let frames = fs::read(path).expect("the file is read");
             fs::write(out, make(&frames)).expect("the file is written");
         }
-        ["recording", path, times] => {
-            let mut bytes = fs::read(path).expect("the file is read");
-            let times: u32 = times.parse().expect("TIMES is a number");
-            let mut sum = 0u64;
-            for k in 0..times {
-                bytes[3] = (k % 60 + 1) as u8;
-                let recording = Recording::read(&bytes).expect("it is a recording");
-                sum += u64::from(recording.window) + recording.frames.len() as u64;
-            }
-            println!("{sum}");
+        [path, frame] => {
+            let bytes = fs::read(path).expect("the file is read");
+            show(&bytes, frame.parse().expect("BEAT is a number"));
         }
         _ => {
-            eprintln!("usage: recording recording FILE TIMES | recording make FRAMES OUT");
+            eprintln!("usage: replay FILE BEAT | replay make FRAMES OUT");
             return ExitCode::FAILURE;
         }
     }
