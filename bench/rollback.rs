@@ -2,8 +2,8 @@
 //!
 //!     rollback rollback TICKS TIMES FILE
 //!
-//! Plays TIMES games of TICKS ticks, with the inputs of a file of frames. Prints where both peers stand after the last game, and how
-//! many events there were and how many frames were played for them, in all games.
+//! Plays TIMES games of TICKS ticks, with the inputs of a file of frames. Prints where both peers stand after the last game, and
+//! how many events there were and how many frames were played for them, in all games.
 
 #[allow(dead_code)]
 mod court;
