@@ -2,16 +2,23 @@
 //
 //     bench pictures COUNT     plays frames and draws the picture after each; prints the sum of one byte of every picture
 //     bench packets COUNT      reads packets of 0 to 120 inputs; prints the sum of some of what they say
+//     bench rollback TICKS TIMES FILE
+//                              plays games of two peers over a lossy radio, with a file of frames as inputs; prints where both stand
+//                              after the last, how many events there were and how many frames were played for them
 #![tactic(auto)]
 
-use anyhow::bail;
+mod games;
+
+use crate::games::{Machine, Random, play_game};
+use anyhow::{anyhow, bail};
 use court::{Court, Input};
+use game::seat::Seat;
 use packet::{MOST_INPUTS, MOST_LENGTH, Packet};
 use picture::{LENGTH, draw};
-use std::env;
 use std::process::ExitCode;
+use std::{env, fs};
 
-const USAGE: &str = "usage: bench pictures|packets COUNT";
+const USAGE: &str = "usage: bench pictures|packets COUNT | rollback TICKS TIMES FILE";
 
 // Numbers of the rules and of a packet's bytes stand here once more: `court` and `packet` keep theirs to themselves.
 
@@ -77,29 +84,61 @@ fn packets(count: u32, buffer: &mut [u8; MOST_LENGTH]) -> u64 {
     sum
 }
 
-fn run(rt: &HostRuntime) -> anyhow::Result<()> {
-    let mut args = env::args(rt)?.skip(1);
-    let (Some(what), Some(count), None) = (args.next(), args.next(), args.next()) else {
-        bail!(USAGE);
-    };
-    let count = count.parse::<u32>()?;
-    let sum = match what.as_str() {
-        "pictures" => {
-            let mut picture = vec![in rt.alloc(); 0u8; LENGTH]?;
-            pictures(count, &mut picture)
-        }
-        "packets" => {
-            // Some packet; the upper halves of its two numbers of four bytes are 0.
-            let mut buffer = [7u8; MOST_LENGTH];
-            buffer[0] = b'H';
-            buffer[COUNT_AT - 2..COUNT_AT].fill(0);
-            buffer[INPUTS_AT - 2..INPUTS_AT].fill(0);
-            packets(count, &mut buffer)
-        }
-        _ => bail!(USAGE),
-    };
+fn print_sum(rt: &HostRuntime, sum: u64) -> anyhow::Result<()> {
     println!(rt; "{sum}")?;
     Ok(())
+}
+
+fn run_pictures(rt: &HostRuntime, count: u32) -> anyhow::Result<()> {
+    let mut picture = vec![in rt.alloc(); 0u8; LENGTH]?;
+    print_sum(rt, pictures(count, &mut picture))
+}
+
+// Some packet; the upper halves of its two numbers of four bytes are 0.
+fn run_packets(rt: &HostRuntime, count: u32) -> anyhow::Result<()> {
+    let mut buffer = [7u8; MOST_LENGTH];
+    buffer[0] = b'H';
+    buffer[COUNT_AT - 2..COUNT_AT].fill(0);
+    buffer[INPUTS_AT - 2..INPUTS_AT].fill(0);
+    print_sum(rt, packets(count, &mut buffer))
+}
+
+fn run_rollback(rt: &HostRuntime, ticks: usize, times: u32, frames: &[u8]) -> anyhow::Result<()> {
+    let mut left = Machine::new(rt.alloc(), Seat::Left)?;
+    let mut right = Machine::new(rt.alloc(), Seat::Right)?;
+    let mut random = Random(1);
+    for _ in 0..times {
+        play_game(&mut left, &mut right, ticks, frames, &mut random)?;
+    }
+    println!(rt; "{}", left.status()?)?;
+    println!(rt; "{}", right.status()?)?;
+    let events = left.events.wrapping_add(right.events);
+    let played = left.frames.wrapping_add(right.frames);
+    println!(rt; "events {events} frames {played}")?;
+    Ok(())
+}
+
+fn read_file(rt: &HostRuntime, path: &str) -> anyhow::Result<Vec<u8>> {
+    fs::read(rt, path).map_err(|e| anyhow!("bench: {path}: {e}"))
+}
+
+fn run(rt: &HostRuntime) -> anyhow::Result<()> {
+    let mut words = Vec::new(rt.alloc());
+    for word in env::args(rt)?.skip(1) {
+        words.push(word)?;
+    }
+    let [what, rest @ ..] = words.as_slice() else {
+        bail!(USAGE);
+    };
+    match (what.as_str(), rest) {
+        ("pictures", [count]) => run_pictures(rt, count.parse()?),
+        ("packets", [count]) => run_packets(rt, count.parse()?),
+        ("rollback", [ticks, times, file]) => {
+            let frames = read_file(rt, file)?;
+            run_rollback(rt, ticks.parse()?, times.parse()?, &frames)
+        }
+        _ => bail!(USAGE),
+    }
 }
 
 // Each program ends so; a library for these lines would be no shorter.
