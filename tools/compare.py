@@ -80,7 +80,10 @@ def refused_lines():
 def by_program(words):
     """What a built program prints on standard output and on standard error, and its status, as `reference.run` tells them."""
     program = os.path.join(TOP, "crates", words[0], "out", words[0])
-    done = subprocess.run([program, *words[1:]], capture_output=True, text=True, timeout=120)
+    try:
+        done = subprocess.run([program, *words[1:]], capture_output=True, text=True, timeout=120)
+    except subprocess.TimeoutExpired:
+        return "", "no end in 120 seconds", None
     return done.stdout, done.stderr, done.returncode
 
 
@@ -112,7 +115,9 @@ def example_commands():
     os.symlink(os.path.join(TOP, "crates"), "crates")
     with open(os.path.join(EXAMPLES, "README.md")) as file:
         text = file.read()
-    for command, wanted in re.findall(r"^    \$ (.*\n)((?:    (?!\$ ).*\n)*)", text, re.MULTILINE):
+    found = re.findall(r"^    \$ (.*\n)((?:    (?!\$ ).*\n)*)", text, re.MULTILINE)
+    yield "commands in examples/README.md", len(found) > 0
+    for command, wanted in found:
         done = subprocess.run(["sh", "-c", command], cwd="examples", capture_output=True, text=True, timeout=120)
         yield command.strip(), done.stdout + done.stderr == re.sub("^    ", "", wanted, flags=re.MULTILINE)
 
