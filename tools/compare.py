@@ -1,13 +1,14 @@
 #!/usr/bin/env python3
 """The built programs beside reference.py, on the same command lines: what they print, their status and the files that they write.
+And the commands of examples/README.md: whether they print what stands there.
 
     compare.py      in a checkout whose programs were built, as `rt ci` and `rt run` do
 
 Prints a line for each command whose results differ, and at the end how many did.
 """
-import contextlib
-import io
 import os
+import re
+import shutil
 import subprocess
 import sys
 import tempfile
@@ -17,10 +18,14 @@ import reference
 TOP = os.path.dirname(os.path.dirname(os.path.abspath(__file__)))
 EVENTS = os.path.join(TOP, "crates", "play", "data")
 MATCH = os.path.join(TOP, "crates", "plain", "data", "match.frames")
+EXAMPLES = os.path.join(TOP, "examples")
 RECORDING = os.path.join(TOP, "crates", "replay", "data", "match.recording")
 
 # Seat and window of each file of events.
 SESSIONS = {"a": (0, 60), "b": (0, 60), "c": (0, 60), "d": (0, 60), "e": (0, 60), "f": (0, 60), "g": (0, 3), "h": (0, 3), "rough": (1, 4)}
+
+# The row of `radio` whose events the examples are.
+EXAMPLE = "48 8 1300 64 32 6"
 
 # Each row: seed, window, ticks, loss, twice, delay.
 RADIO = "11 20 700 32 16 17 12 1 90 0 0 0 13 60 400 200 64 40 14 7 500 0 255 12 15 33 300 256 0 3"
@@ -38,45 +43,103 @@ def commands():
     for name in ("g", "h"):
         seat, window = SESSIONS[name]
         yield ["play", str(seat), str(window), os.path.join(EVENTS, name + ".events"), "show"]
+    for seat, name in enumerate(("left", "right")):
+        file = os.path.join(EXAMPLES, name + ".events")
+        yield ["play", str(seat), "8", file, "letters", "OUT", "record", "OUT2"]
     yield ["play", "0", "9", MATCH]
     for frame in ("0", "599", "600", "601", "6728", "6729"):
         yield ["replay", RECORDING, frame]
     yield ["replay", MATCH, "1"]
     yield ["radio", *RADIO.split()]
+    yield ["radio", *EXAMPLE.split()]
+    yield ["radio", "1", "61", "1", "0", "0", "0"]
+    yield from refused_lines()
 
 
-def by_reference(words):
-    out = io.StringIO()
-    with contextlib.redirect_stdout(out):
-        status = reference.main(words)
-    return out.getvalue(), status
+def refused_lines():
+    """Wrong command lines, files that cannot be read, and files that cannot be written."""
+    for program in reference.USAGE:
+        yield [program]
+        yield [program, "\udcff"]
+    yield ["plain", MATCH, "shown"]
+    yield ["play", "2", "8", MATCH]
+    yield ["play", "0", "eight", MATCH]
+    yield ["play", "0", "8", MATCH, "letters"]
+    yield ["replay", RECORDING, "-1"]
+    yield ["replay", RECORDING, str(2 ** 64)]
+    yield ["radio", "1", "2", "3", "4", "5"]
+    for file in ("none", TOP):
+        yield ["plain", file]
+        yield ["play", "0", "8", file]
+        yield ["replay", file, "0"]
+    for out in ("none/OUT", "."):
+        yield ["play", "0", "3", os.path.join(EVENTS, "g.events"), "letters", out]
+        yield ["play", "0", "3", os.path.join(EVENTS, "g.events"), "letters", "OUT", "record", out]
 
 
 def by_program(words):
+    """What a built program prints on standard output and on standard error, and its status, as `reference.run` tells them."""
     program = os.path.join(TOP, "crates", words[0], "out", words[0])
-    done = subprocess.run([program, *words[1:]], capture_output=True, text=True, timeout=120)
-    return done.stdout, done.returncode
+    try:
+        done = subprocess.run([program, *words[1:]], capture_output=True, text=True, timeout=120)
+    except subprocess.TimeoutExpired:
+        return "", "no end in 120 seconds", None
+    return done.stdout, done.stderr, done.returncode
 
 
-def result(run, words, folder):
-    """What a command printed, its status, and the file OUT, which it writes or not."""
-    out = os.path.join(folder, run.__name__)
-    printed = run([out if word == "OUT" else word for word in words])
-    with contextlib.suppress(FileNotFoundError), open(out, "rb") as file:
-        return printed, file.read()
-    return printed, None
+def taken(path):
+    with open(path, "rb") as file:
+        file = file.read()
+    os.remove(path)
+    return file
+
+
+def result(run, words):
+    """What a command came to, and the files that it wrote in this folder, which are taken away for the next to run."""
+    before = set(os.listdir())
+    told = run(words)
+    return told, {name: taken(name) for name in sorted(set(os.listdir()) - before)}
+
+
+def example_files():
+    """Whether the examples are the events of their row."""
+    sides = reference.exchange(*map(int, EXAMPLE.split()))
+    for side, name in zip(sides, ("left", "right")):
+        with open(os.path.join(EXAMPLES, name + ".events"), "rb") as file:
+            yield "examples/" + name + ".events", file.read() == side.events
+
+
+def example_commands():
+    """Each command of examples/README.md, and whether it prints what stands there. They are run in a copy, as some write files."""
+    shutil.copytree(EXAMPLES, "examples")
+    os.symlink(os.path.join(TOP, "crates"), "crates")
+    with open(os.path.join(EXAMPLES, "README.md")) as file:
+        text = file.read()
+    found = re.findall(r"^    \$ (.*\n)((?:    (?!\$ ).*\n)*)", text, re.MULTILINE)
+    yield "commands in examples/README.md", len(found) > 0
+    for command, wanted in found:
+        done = subprocess.run(["sh", "-c", command], cwd="examples", capture_output=True, text=True, timeout=120)
+        yield command.strip(), done.stdout + done.stderr == re.sub("^    ", "", wanted, flags=re.MULTILINE)
+
+
+def compared():
+    """Everything that is compared: its name, and whether it is the same."""
+    for words in commands():
+        yield ascii(words), result(reference.run, words) == result(by_program, words)
+    yield from example_files()
+    yield from example_commands()
 
 
 def main():
-    differ = count = 0
-    for words in commands():
-        with tempfile.TemporaryDirectory() as folder:
-            same = result(by_reference, words, folder) == result(by_program, words, folder)
-        count += 1
-        if not same:
-            differ += 1
-            print("differs:", *words)
-    print(f"{count} commands compared, {differ} differ")
+    with tempfile.TemporaryDirectory() as folder:
+        os.chdir(folder)
+        differ = []
+        for count, (name, same) in enumerate(compared(), 1):
+            if not same:
+                differ.append(name)
+                print("differs:", name)
+        os.chdir(TOP)
+    print(f"{count} compared, {len(differ)} differ")
     return 1 if differ else 0
 
 

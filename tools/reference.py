@@ -5,11 +5,28 @@
     reference.py play SEAT N FILE [show] [letters OUT] [record OUT]
     reference.py replay FILE BEAT
     reference.py radio SEED N TICKS LOSS TWICE DELAY ..
+
+And a file of events for each machine of such a row, for `play`:
+
+    reference.py events LEFT RIGHT SEED N TICKS LOSS TWICE DELAY
 """
+import collections
+import contextlib
+import re
 import sys
 
 MOST = 1_000_000
+USAGE = {
+    "plain": "usage: plain FILE [show]",
+    "play": "usage: play SEAT N FILE [show] [letters OUT] [record OUT]",
+    "replay": "usage: replay FILE BEAT",
+    "radio": "usage: radio SEED N TICKS LOSS TWICE DELAY ..",
+}
 GLYPHS = "75557 26227 71747 71717 55711 74717 74757 71111 75757 75717".split()
+
+# The court's lines, on which all else is painted.
+LINES = [b"".join(b"|" if i in (79, 80) or (i in (0, 159) and (j < 40 or j > 79)) else b"." for i in range(160))
+         for j in range(120)]
 
 
 def clamp(lo, hi, a):
@@ -87,22 +104,25 @@ class State:
         return (f"beat {frames} ball {self.x} {self.y} way {self.dx} {self.dy} bars {a} {b} {c} {d} "
                 f"points {self.score[0]} {self.score[1]} wait {self.wait}")
 
-    def dot(self, i, j):
-        x, y = 256 * i + 128, 256 * j + 128
-        if any(abs(x - px) < 512 and abs(y - py) < 2048 for px, py in self.paddles):
-            return "#"
-        if abs(x - self.x) < 512 and abs(y - self.y) < 512:
-            return "o"
-        for seat, first in ((0, 70), (1, 87)):
-            if first <= i < first + 3 and 4 <= j < 9:
-                if int(GLYPHS[self.score[seat]][j - 4]) >> (2 - (i - first)) & 1:
-                    return "*"
-        if i in (79, 80) or (i in (0, 159) and (j < 40 or j > 79)):
-            return "|"
-        return "."
-
     def picture(self):
-        return "".join("".join(self.dot(i, j) for i in range(160)) + "\n" for j in range(120))
+        """As text: what counts more is painted later."""
+        rows = [bytearray(row) for row in LINES]
+
+        def paint(byte, columns, lines):
+            for j in lines:
+                for i in columns:
+                    rows[j][i] = ord(byte)
+
+        def near(middle, reach, dots):
+            return [i for i in range(dots) if abs(256 * i + 128 - middle) < reach]
+
+        for seat, first in ((0, 70), (1, 87)):
+            for j, bits in enumerate(GLYPHS[self.score[seat]], 4):
+                paint("*", [first + i for i in range(3) if int(bits) >> (2 - i) & 1], [j])
+        paint("o", near(self.x, 512, 160), near(self.y, 512, 120))
+        for px, py in self.paddles:
+            paint("#", near(px, 512, 160), near(py, 2048, 120))
+        return "".join(row.decode() + "\n" for row in rows)
 
     def saved(self):
         numbers = [self.x, self.y, self.dx, self.dy] + [n for p in self.paddles for n in p]
@@ -110,8 +130,8 @@ class State:
         return head + bytes(self.score + [self.wait]) + bytes(29)
 
 
-def plain_game(left, right):
-    s = State()
+def plain_game(left, right, start=None):
+    s = start.copy() if start else State()
     for a, b in zip(left, right):
         s.frame(a, b)
     return s
@@ -143,6 +163,7 @@ class Peer:
     def __init__(self, seat, window):
         self.seat, self.window = seat, window
         self.own, self.other, self.acked = [], [], 0
+        self.sure, self.after = 0, State()
 
     def tick(self, held):
         if held > 15:
@@ -170,9 +191,18 @@ class Peer:
         n = len(self.own)
         return (self.other + [last] * max(0, n - len(self.other)))[:n]
 
+    def play_on(self, start, first, last):
+        """The plain game from a state on, with the inputs of some frames."""
+        known = self.other[first:last]
+        held = self.other[-1] if self.other else 0
+        both = [self.own[first:last], known + [held] * (last - first - len(known))]
+        return plain_game(*(both if self.seat == 0 else both[::-1]), start)
+
     def shown(self):
-        both = [self.own, self.predicted()]
-        return plain_game(*(both if self.seat == 0 else both[::-1]))
+        """From the last state all of whose inputs have come: they stay."""
+        sure = self.confirmed()
+        self.sure, self.after = sure, self.play_on(self.after, self.sure, sure)
+        return self.play_on(self.after, sure, len(self.own))
 
     def confirmed(self):
         return min(len(self.own), len(self.other))
@@ -194,6 +224,11 @@ def events_of(file):
                 continue
         return at
     return events
+
+
+def arrival(packet):
+    """A packet that came, as an event."""
+    return b"\1" + len(packet).to_bytes(2, "little") + packet
 
 
 def recording(window, frames):
@@ -226,14 +261,18 @@ def recording_fault(file):
     return next((i for i in range(both) if file[i] != right[i]), both)
 
 
-def replay(file, frame):
+class Failed(Exception):
+    """A line on standard error; the status is 1."""
+
+
+def replay(path, file, frame):
     """What `replay` prints on standard output, and whether it showed something."""
     fault = recording_fault(file)
     if fault is not None:
         return f"refused 6 at {fault}\n", False
     frames = file[8:8 + int.from_bytes(file[4:8], "little")]
     if frame > len(frames):
-        return "", False
+        raise Failed(f"replay: {path}: no frame {frame}, it has {len(frames)}")
     s = plain_game([b % 16 for b in frames[:frame]], [b // 16 for b in frames[:frame]])
     return f"beat {frame} of {len(frames)} points {s.score[0]} {s.score[1]}\n" + s.picture(), True
 
@@ -255,8 +294,7 @@ def play(seat, window, file, show=False, letters=None, record=None):
         if show:
             out.append(shown.picture())
         if kind == 0 and not said.startswith("refused") and letters is not None:
-            p = peer.packet()
-            letters.append(b"\1" + len(p).to_bytes(2, "little") + p)
+            letters.append(arrival(peer.packet()))
     if record is not None:
         both = [peer.own, peer.other] if seat == 0 else [peer.other, peer.own]
         record.append(recording(window, bytes(a + 16 * b for a, b in zip(*both))))
@@ -273,25 +311,27 @@ class Random:
 
 
 class Side:
-    """A machine at the radio: its peer, what it holds, the packets that it wrote, and the counts."""
+    """A machine at the radio: its peer, what it holds, the packets that it wrote, its events as a file, and the counts."""
 
     def __init__(self, seat, window):
-        self.peer, self.held, self.sent = Peer(seat, window), 0, []
+        self.peer, self.held, self.sent, self.events = Peer(seat, window), 0, [], b""
         self.lost = self.refused = self.played = self.again = 0
 
     def tick(self, held):
+        self.events += bytes([0, held])
         said = self.peer.tick(held)
         self.lost += said == "lost"
         self.played += said is None
         self.sent.append(self.peer.packet())
 
     def hear(self, packet):
-        before, n = self.peer.predicted(), len(self.peer.own)
+        self.events += arrival(packet)
+        before, n, sure = self.peer.predicted(), len(self.peer.own), self.peer.confirmed()
         if self.peer.hear(packet) is not None:
             self.refused += 1
             return
         after = self.peer.predicted()
-        right = next((i for i in range(n) if before[i] != after[i]), n)
+        right = next((i for i in range(sure, n) if before[i] != after[i]), n)
         self.played += n - right
         self.again += n - right
 
@@ -302,58 +342,152 @@ class Side:
                 f"lost {self.lost} refused {self.refused} played {self.played} again {self.again}\n")
 
 
-def radio(seed, window, ticks, loss, twice, delay):
-    """What `radio` prints of one row."""
-    random, sides, air = Random(seed), [Side(0, window), Side(1, window)], []
+def exchange(seed, window, ticks, loss, twice, delay):
+    """Both machines after a row of `radio`."""
+    random, sides, air = Random(seed), [Side(0, window), Side(1, window)], collections.defaultdict(list)
     for now in range(ticks + 150):
         for seat, side in enumerate(sides):
             changes, held = random.below(8) == 0, random.below(16)
             side.held = held if changes else side.held
-            for due, to, number in air:
-                if (due, to) == (now, seat):
-                    side.hear(sides[1 - seat].sent[number])
+            for number in air[now, seat]:
+                side.hear(sides[1 - seat].sent[number])
             side.tick(side.held)
             lost, doubled = random.below(256) < loss, random.below(256) < twice
             late = [random.below(max(0, delay - 1)) for _ in range(2)]
             if now >= ticks:
                 lost, doubled, late = False, False, [0, 0]
             for more in late[:0 if lost else 2 if doubled else 1]:
-                air.append((now + 2 + more, 1 - seat, now))
+                air[now + 2 + more, 1 - seat].append(now)
+    return sides
+
+
+def radio(out, seed, window, ticks, loss, twice, delay):
+    """What `radio` prints of one row."""
+    out.append(f"seed {seed} window {window} ticks {ticks} loss {loss} twice {twice} delay {delay}\n")
+    if not 1 <= window <= 60:
+        raise Failed("radio: refused 5 at 0")
+    sides = exchange(seed, window, ticks, loss, twice, delay)
     left, right = (side.peer for side in sides)
     sure = min(left.confirmed(), right.confirmed())
     games = [(left.own[:sure], left.other[:sure]), (right.other[:sure], right.own[:sure])]
     same = games[0] == games[1] and plain_game(*games[0]).saved() == plain_game(*games[1]).saved()
-    return (f"seed {seed} window {window} ticks {ticks} loss {loss} twice {twice} delay {delay}\n"
-            + sides[0].line("left") + sides[1].line("right") + (f"same {sure}\n" if same else "different\n"))
+    out += sides[0].line("left"), sides[1].line("right"), f"same {sure}\n" if same else "different\n"
 
 
-def main(args):
-    if args[:1] == ["radio"] and len(args) > 1 and len(args) % 6 == 1:
-        numbers = [int(word) for word in args[1:]]
-        for i in range(0, len(numbers), 6):
-            print(radio(*numbers[i:i + 6]), end="")
+def number(word):
+    """A number on a command line, or none."""
+    return int(word) if re.fullmatch(r"\+?[0-9]+", word, re.ASCII) and int(word) < 2 ** 64 else None
+
+
+@contextlib.contextmanager
+def at_file(program, path):
+    try:
+        yield
+    except OSError as error:
+        raise Failed(f"{program}: {path}: {error.strerror} (os error {error.errno})")
+
+
+def read(program, path):
+    with at_file(program, path), open(path, "rb") as file:
+        return file.read()
+
+
+def write(program, path, what):
+    with at_file(program, path), open(path, "wb") as file:
+        file.write(what)
+
+
+def usage_unless(right, program):
+    if not right:
+        raise Failed(USAGE[program])
+
+
+def run_plain(args, out):
+    usage_unless(len(args) == 1 or (len(args) == 2 and args[1] == "show"), "plain")
+    frames = read("plain", args[0])
+    if len(frames) > MOST:
+        raise Failed(f"plain: {args[0]}: more than {MOST} frames")
+    s = plain_game([b % 16 for b in frames], [b // 16 for b in frames])
+    out.append(s.line(len(frames)) + "\n")
+    if args[1:]:
+        out.append(s.picture())
+    return True
+
+
+def run_play(args, out):
+    seat, window, words = args[:1], number(args[1]) if len(args) > 2 else None, args[3:]
+    usage_unless(seat in (["0"], ["1"]) and window is not None, "play")
+    show, wanted = False, {}
+    while words:
+        word = words.pop(0)
+        usage_unless(word == "show" or (word in ("letters", "record") and words), "play")
+        if word == "show":
+            show = True
+        else:
+            wanted[word] = words.pop(0)
+    parts = {"letters": [], "record": []}
+    text, done = play(int(seat[0]), window, read("play", args[2]), show, **parts)
+    out.append(text)
+    for word in ("letters", "record"):
+        if done and word in wanted:
+            write("play", wanted[word], b"".join(parts[word]))
+    return done
+
+
+def run_replay(args, out):
+    frame = number(args[1]) if len(args) == 2 else None
+    usage_unless(frame is not None, "replay")
+    text, done = replay(args[0], read("replay", args[0]), frame)
+    out.append(text)
+    return done
+
+
+def run_radio(args, out):
+    numbers = [number(word) for word in args]
+    usage_unless(numbers and None not in numbers and len(numbers) % 6 == 0, "radio")
+    for i in range(0, len(numbers), 6):
+        radio(out, *numbers[i:i + 6])
+    return True
+
+
+PROGRAMS = {"plain": run_plain, "play": run_play, "replay": run_replay, "radio": run_radio}
+
+
+def check_words(program, words):
+    """Words that are no UTF-8 come with surrogates."""
+    try:
+        "".join(words).encode()
+    except UnicodeEncodeError:
+        raise Failed(f"{program}: command line: invalid data")
+
+
+def run(words):
+    """What a program prints on standard output and on standard error, and its status. Writes the files that it is told to."""
+    out = []
+    try:
+        check_words(words[0], words)
+        done = PROGRAMS[words[0]](list(words[1:]), out)
+    except Failed as told:
+        return "".join(out), f"{told}\n", 1
+    return "".join(out), "", 0 if done else 1
+
+
+def write_events(left, right, *row):
+    for path, side in zip((left, right), exchange(*map(int, row))):
+        write("events", path, side.events)
+
+
+def main(words):
+    if words[:1] == ["events"] and len(words) == 9:
+        write_events(*words[1:])
         return 0
-    if args[:1] == ["plain"]:
-        frames = open(args[1], "rb").read()
-        s = plain_game([b % 16 for b in frames], [b // 16 for b in frames])
-        print(s.line(len(frames)))
-        if args[2:] == ["show"]:
-            print(s.picture(), end="")
-        return 0
-    if args[:1] == ["play"]:
-        letters, record = [], []
-        text, done = play(int(args[1]), int(args[2]), open(args[3], "rb").read(), "show" in args[4:], letters, record)
-        print(text, end="")
-        for word, parts in (("letters", letters), ("record", record)):
-            if done and word in args:
-                open(args[args.index(word) + 1], "wb").write(b"".join(parts))
-        return 0 if done else 1
-    if args[:1] == ["replay"]:
-        text, done = replay(open(args[1], "rb").read(), int(args[2]))
-        print(text, end="")
-        return 0 if done else 1
-    print(__doc__, file=sys.stderr)
-    return 1
+    if not words or words[0] not in PROGRAMS:
+        print(__doc__, file=sys.stderr)
+        return 1
+    out, err, status = run(words)
+    sys.stdout.write(out)
+    sys.stderr.write(err)
+    return status
 
 
 if __name__ == "__main__":

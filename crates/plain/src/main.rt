@@ -52,7 +52,8 @@ fn print_picture(rt: &HostRuntime, court: Court) -> anyhow::Result<()> {
 
 // The file's name, and whether to show the picture.
 fn arguments(rt: &HostRuntime) -> anyhow::Result<(String, bool)> {
-    let mut args = env::args(rt)?.skip(1);
+    let words = env::args(rt).map_err(|e| anyhow!("plain: command line: {e}"))?;
+    let mut args = words.skip(1);
     let (path, word, rest) = (args.next(), args.next(), args.next());
     match (path, word.as_deref(), rest) {
         (Some(path), None, None) => Ok((path, false)),

@@ -197,7 +197,8 @@ fn at_file(path: &str, error: io::Error) -> anyhow::Error {
 
 // Plays the session, or tells on standard output why it is refused.
 fn run(rt: &HostRuntime) -> anyhow::Result<ExitCode> {
-    let options = options_of(env::args(rt)?).context(USAGE)?;
+    let words = env::args(rt).map_err(|e| anyhow!("play: command line: {e}"))?;
+    let options = options_of(words).context(USAGE)?;
     let file = fs::read(rt, &options.file).map_err(|e| at_file(&options.file, e))?;
     let mut memory = Memory::new(rt.alloc())?;
     let (mut p, row) = match memory.begin(&options, &file) {

@@ -7,7 +7,7 @@
 
 #![tactic(auto)]
 
-use anyhow::{Context, bail};
+use anyhow::{Context, anyhow, bail};
 use court_game::plain::play;
 use exchange::moves::{Act, Move};
 use exchange::run::{Both, Played, Unplayed, play_moves};
@@ -267,10 +267,7 @@ fn run_one(rt: &HostRuntime, options: Options) -> anyhow::Result<()> {
         &moves,
     ) {
         Ok(both) => both,
-        Err(Unplayed::Refused(refused)) => {
-            println!(rt; "{refused}")?;
-            bail!("refused");
-        }
+        Err(Unplayed::Refused(refused)) => bail!("radio: {refused}"),
         Err(Unplayed::NoMemory) => bail!("radio: no memory"),
     };
     print_side(rt, "left", both.left, &left.states)?;
@@ -281,7 +278,8 @@ fn run_one(rt: &HostRuntime, options: Options) -> anyhow::Result<()> {
 // The rows of the command line.
 fn rows(rt: &HostRuntime) -> anyhow::Result<Vec<Options>> {
     let mut words = Vec::new(rt.alloc());
-    for word in env::args(rt)?.skip(1) {
+    let all = env::args(rt).map_err(|e| anyhow!("radio: command line: {e}"))?;
+    for word in all.skip(1) {
         words.push(word.parse::<u64>().context(USAGE)?)?;
     }
     let mut rows = Vec::new(rt.alloc());

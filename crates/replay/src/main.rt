@@ -38,7 +38,8 @@ fn print_shown(rt: &HostRuntime, frame: usize, shown: Shown, picture: &[u8]) -> 
 
 // Shows the frame, or tells on standard output why the file is refused.
 fn run(rt: &HostRuntime) -> anyhow::Result<ExitCode> {
-    let (file, frame) = options_of(env::args(rt)?).context(USAGE)?;
+    let words = env::args(rt).map_err(|e| anyhow!("replay: command line: {e}"))?;
+    let (file, frame) = options_of(words).context(USAGE)?;
     let bytes = fs::read(rt, &file).map_err(|e| anyhow!("replay: {file}: {e}"))?;
     let mut picture = vec![in rt.alloc(); 0u8; LENGTH]?;
     match show(&bytes, frame, &mut picture) {
