@@ -82,8 +82,8 @@ pub struct Machine {
     inputs: Vec<u8>,
     states: Vec<u8>,
     picture: Vec<u8>,
-    pub events: u64,
-    pub frames: u64,
+    pub events: usize,
+    pub frames: usize,
 }
 
 impl Machine {
@@ -124,7 +124,7 @@ impl Machine {
         );
         self.events = self.events.wrapping_add(1);
         if let Outcome::Taken(frames) = answer.outcome {
-            self.frames = self.frames.wrapping_add(frames as u64);
+            self.frames = self.frames.wrapping_add(frames);
         }
         answer.sent
     }
