@@ -65,6 +65,8 @@ def refused_lines():
     yield ["play", "2", "8", MATCH]
     yield ["play", "0", "eight", MATCH]
     yield ["play", "0", "8", MATCH, "letters"]
+    yield ["play", "0", "3", os.path.join(EVENTS, "g.events"), "letters", "OUT", "record", "OUT"]
+    yield ["play", "0", "3", os.path.join(EVENTS, "g.events"), "letters", "OUT", "show", "letters", "OUT2", "record", "OUT"]
     yield ["replay", RECORDING, "-1"]
     yield ["replay", RECORDING, str(2 ** 64)]
     yield ["radio", "1", "2", "3", "4", "5"]

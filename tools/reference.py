@@ -425,6 +425,7 @@ def run_play(args, out):
             show = True
         else:
             wanted[word] = words.pop(0)
+    usage_unless("letters" not in wanted or wanted["letters"] != wanted.get("record"), "play")
     parts = {"letters": [], "record": []}
     text, done = play(int(seat[0]), window, read("play", args[2]), show, **parts)
     out.append(text)

@@ -4,7 +4,8 @@
 //
 // SEAT is 0 or 1, N the window, 1 to 60. FILE has events: 0 and an input, or 1, a packet's length in two bytes and its bytes.
 // With `show` the picture follows each line; with `letters` the packets that this peer sends are written to OUT, as events of
-// the other's. The rules are the library's: here is only reading and printing.
+// the other's; with `record` the recording of what it is sure of at the end, to another file. The rules are the library's: here is only
+// reading and printing.
 
 #![tactic(auto)]
 
@@ -73,6 +74,10 @@ fn options_of(mut words: env::Args) -> Option<Options> {
             "record" => options.record = Some(words.next()?),
             _ => return None,
         }
+    }
+    // One file cannot hold both.
+    if options.letters.is_some() && options.letters == options.record {
+        return None;
     }
     Some(options)
 }
