@@ -9,14 +9,17 @@
 
 #![tactic(auto)]
 
-ghost use Rattle.std.specs.Prelude.{◌≡◌, ℕ, List, [], ◌++◌, drop, IfOk, OnOk};
+ghost use Rattle.std.specs.Prelude.{◌≡◌, ℕ, true, ◌⊎◌, List, [], ◌++◌, length, drop, Err, IfErr, IfOk, OnOk};
 ghost use Rattle.court_game.specs.Games.{court_game};
 ghost use Rattle.game.specs.declared.seat.Seat.{Seat as At};
 ghost use Rattle.peer.specs.Peers.{Event, shows};
 ghost use Rattle.picture.specs.Picture.{picture_of};
 ghost use Rattle.recording.specs.Matches.{match_bytes, match_of};
-ghost use Rattle.session.specs.Files.{FileOf};
-ghost use Rattle.session.specs.Rows.{After, letters as letters_of, log_after, memory as memory_of};
+ghost use Rattle.peer.specs.Refusals.{begin_checked};
+ghost use Rattle.session.specs.declared.refused.Refused.TheVariants.{Event as NoEvent};
+ghost use Rattle.session.specs.Files.{FileOf, FaultyAt};
+ghost use Rattle.session.specs.Refusals.{said_begun};
+ghost use Rattle.session.specs.Rows.{After, log_after, memory as memory_of, packets_sent};
 
 use anyhow::{Context, anyhow};
 use game::seat::Seat;
@@ -28,8 +31,8 @@ use recording::write::write;
 use rollback::Outcome;
 use session::Refused;
 use session::calls::{begin, check_lent, draw, status};
-use session::letters::happen_keeping;
 use session::row::Row;
+use session::sending::happen_keeping;
 use std::alloc::{AllocError, Global};
 use std::process::ExitCode;
 use std::{env, fs, io};
@@ -102,7 +105,8 @@ impl Memory {
 
     // A session for a file of events: first what does not let it begin is refused, and then a file that is no row of events.
     fn begin<'a>(&mut self, options: &Options, file: &'a [u8]) -> Result<(Peer, Row<'a>), Refused>
-        ensures { IfOk result (λ r. After options.now.seat options.now.window [] (memory_of r.0 self.new.inputs.items self.new.states.items) × (r.1.file.now ≡ file.now)) }
+        ensures refused { IfErr result (λ f. (said_begun (begin_checked options.now.window (length self.old.inputs.items) (length self.old.states.items)) (length self.old.picture.items) ≡ Err f) ⊎ ((at : ℕ) × (f ≡ NoEvent at) × FaultyAt file.now at)) }
+        ensures begun { IfOk result (λ r. After options.now.seat options.now.window [] (memory_of r.0 self.new.inputs.items self.new.states.items) × (r.1.file.now ≡ file.now)) }
     {
         check_lent(options.window, &self.inputs, &self.states, &self.picture)?;
         let row = Row::of(file)?;
@@ -154,7 +158,9 @@ fn tell(
     picture: &mut [u8],
     show: bool,
     outcome: Outcome,
-) -> anyhow::Result<()> {
+) -> anyhow::Result<()>
+    ensures { OnOk result (show ≡ true → (seat : At) (window : ℕ) (es : List Event) (inputs : List ℕ) → After seat window es (memory_of p.now inputs states.now) → picture.new ≡ picture_of (shows court_game seat (log_after window es)) ++ drop 19200 picture.old) }
+{
     print_outcome(rt, p, states, outcome)?;
     if show {
         print_picture(rt, p, states, picture)?;
@@ -171,7 +177,7 @@ fn play(
     show: bool,
 ) -> anyhow::Result<Vec<u8>>
     ensures row { OnOk result ((seat : At) (window : ℕ) (before es : List Event) → After seat window before (memory_of p.old memory.old.inputs.items memory.old.states.items) → FileOf es row.entry.file.now → After seat window (before ++ es) (memory_of p.new memory.new.inputs.items memory.new.states.items)) }
-    ensures letters { IfOk result (λ l. (seat : At) (window : ℕ) (before es : List Event) → After seat window before (memory_of p.old memory.old.inputs.items memory.old.states.items) → FileOf es row.entry.file.now → l.items ≡ letters_of window (log_after window before) es) }
+    ensures packets { IfOk result (λ l. (seat : At) (window : ℕ) (before es : List Event) → After seat window before (memory_of p.old memory.old.inputs.items memory.old.states.items) → FileOf es row.entry.file.now → l.items ≡ packets_sent window (log_after window before) es) }
 {
     let mut letters = Vec::new(rt.alloc());
     for event in row.events() {

@@ -34,8 +34,8 @@ tells (tick a) = is_input a
 tells (arrival xs) = false
 
 -- the packets that a peer writes over a row of events, as events of the other's file
-unfoldable pub letters : ℕ → Log → List Event → List ℕ
-letters window log [] = []
-letters window log (e ∷ es) =
+unfoldable pub packets_sent : ℕ → Log → List Event → List ℕ
+packets_sent window log [] = []
+packets_sent window log (e ∷ es) =
     cond (tells e) (event_bytes (arrival (message_bytes (sends (event is_input window log e))))) []
-    ++ letters window (event is_input window log e) es
+    ++ packets_sent window (event is_input window log e) es

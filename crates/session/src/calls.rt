@@ -1,5 +1,7 @@
 // One call for each event, and what the peer then shows and sends, of the court's game. Memory is lent at each call.
-ghost use Rattle.std.specs.Prelude.{◌≡◌, ℕ, ◌+◌, ◌*◌, ◌<◌, ◌≤◌, true, List, [], ◌∷◌, ◌++◌, length, drop, is_ok, is_err, IfOk, MatchResult, ◌≢◌, nat_le};
+ghost use Rattle.std.specs.Prelude.{◌≡◌, ℕ, ◌+◌, ◌*◌, ◌<◌, ◌≤◌, true, List, [], ◌∷◌, ◌++◌, length, drop, is_ok, is_err, IfOk, MatchResult, OnOk, ◌≢◌, min};
+ghost use Rattle.court.specs.Bounds.{InCourt};
+ghost use Rattle.court.specs.declared.state.State.{State};
 ghost use Rattle.court_game.specs.Games.{court_game, is_input};
 ghost use Rattle.court_game.specs.Saved.{court_saved};
 ghost use Rattle.game.specs.declared.seat.Seat.{Seat as At};
@@ -114,7 +116,7 @@ pub fn happen(
     ensures happens { Happened court_saved p.old inputs.old states.old (event_of event.entry) p.new inputs.new states.new }
     ensures row { (seat : At) (window : ℕ) (es : List Event) → After seat window es (memory p.old inputs.old states.old) → After seat window (es ++ event_of event.entry ∷ []) (memory p.new inputs.new states.new) }
     ensures idle { ((n : ℕ) → result.outcome ≢ Taken n) → (p.new ≡ p.old) × (inputs.new ≡ inputs.old) × (states.new ≡ states.old) }
-    ensures stays { (seat : At) (window : ℕ) (es : List Event) → After seat window es (memory p.old inputs.old states.old) → Stays court_game seat (log_of p.old inputs.old) (log_of p.new inputs.new) }
+    ensures stays { (seat : At) → Stays court_game seat (log_of p.old inputs.old) (log_of p.new inputs.new) }
     ensures few { (n : ℕ) → result.outcome ≡ Taken n → n ≤ p.old.window }
     ensures guessed { (xs : List ℕ) → event_of event.entry ≡ arrival xs → predicted (log_of p.old inputs.old) ≡ predicted (log_of p.new inputs.new) → ((n : ℕ) → result.outcome ≡ Taken n → n ≡ 0) × (states.new ≡ states.old) }
     ensures sent { result.sent ≡ sent (writes (event_of event.entry) result.outcome) (sends (log_of p.new inputs.new)) }
@@ -136,6 +138,7 @@ pub fn draw(p: &Peer, states: &[u8], picture: &mut [u8]) -> Result<(), Refused>
     ensures answer { result ≡ said_drawn p.now.window (length states.now) (length picture.old) }
     ensures behind { drop 19200 picture.new ≡ drop 19200 picture.old }
     ensures idle { is_err result ≡ true → picture.new ≡ picture.old }
+    ensures some { OnOk result ((s : State) × InCourt s × (picture.new ≡ picture_of s ++ drop 19200 picture.old)) }
     ensures stands { (seat : At) (window : ℕ) (log : Log) (inputs : List ℕ) → StandsFor court_saved seat window log (memory p.now inputs states.now) → is_ok result ≡ true → picture.new ≡ picture_of (shows court_game seat log) ++ drop 19200 picture.old }
     ensures row { (seat : At) (window : ℕ) (es : List Event) (inputs : List ℕ) → After seat window es (memory p.now inputs states.now) → is_ok result ≡ true → picture.new ≡ picture_of (shows court_game seat (log_after window es)) ++ drop 19200 picture.old }
 {
@@ -146,6 +149,8 @@ pub fn draw(p: &Peer, states: &[u8], picture: &mut [u8]) -> Result<(), Refused>
 // Where the peer stands.
 pub fn status(p: &Peer, states: &[u8]) -> Result<Status, Refused>
     ensures answer { MatchResult result (λ _. LongStates p.now.window states.now) (λ f. (f ≡ Refused.Peer States) × (length states.now < (p.now.window + 1) * 64)) }
+    ensures numbers { IfOk result (λ s. (s.frames ≡ p.now.own) × (s.confirmed ≡ min p.now.own p.now.other)) }
+    ensures stands { IfOk result (λ s. (seat : At) (window : ℕ) (log : Log) (inputs : List ℕ) → StandsFor court_saved seat window log (memory p.now inputs states.now) → s ≡ status_of seat log) }
     ensures row { IfOk result (λ s. (seat : At) (window : ℕ) (es : List Event) (inputs : List ℕ) → After seat window es (memory p.now inputs states.now) → s ≡ status_of seat (log_after window es)) }
 {
     let held: Held = shown(p, states)?;

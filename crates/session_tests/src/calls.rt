@@ -49,7 +49,7 @@ fn packets_are_written(rt: HostRuntime) -> Result<(), Fail> {
 
 // The packets of all ticks behind one another, as events of the other's file: a lost tick sends one too, and what comes or is refused none.
 #[test]
-fn letters_are_kept(rt: HostRuntime) -> Result<(), Fail> {
+fn packets_are_kept(rt: HostRuntime) -> Result<(), Fail> {
     let mut machine = Machine::begin(rt.alloc(), Seat::Left, 1, 128)?;
     let came = [b'H', 0, 0, 0, 0, 1, 1, 0, 0, 0, 8];
     let events = [
@@ -59,10 +59,10 @@ fn letters_are_kept(rt: HostRuntime) -> Result<(), Fail> {
         Happening::Arrival(&came),
         Happening::Tick(6),
     ];
-    let mut letters = Vec::new(rt.alloc());
-    letters.push(77)?;
+    let mut packets = Vec::new(rt.alloc());
+    packets.push(77)?;
     for event in events {
-        machine.keep(event, &mut letters)?;
+        machine.keep(event, &mut packets)?;
     }
     let first = [1, 11, 0, b'H', 0, 0, 0, 0, 1, 0, 0, 0, 0, 4];
     let last = [1, 11, 0, b'H', 1, 0, 0, 0, 1, 1, 0, 0, 0, 6];
@@ -71,7 +71,7 @@ fn letters_are_kept(rt: HostRuntime) -> Result<(), Fail> {
     all.extend_from_slice(&first)?;
     all.extend_from_slice(&first)?;
     all.extend_from_slice(&last)?;
-    assert_eq!(rt; letters.as_slice(), all.as_slice());
+    assert_eq!(rt; packets.as_slice(), all.as_slice());
     Ok(())
 }
 

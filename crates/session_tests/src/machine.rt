@@ -6,7 +6,7 @@ use picture::LENGTH;
 use rollback::Outcome;
 use session::calls::{PACKET_LENGTH, begin, happen, status};
 use session::file::event_at;
-use session::letters::happen_keeping;
+use session::sending::happen_keeping;
 use session::{Answer, Happening, Refused, Status};
 use std::alloc::{AllocError, Global};
 use std::test::Fail;
@@ -56,14 +56,14 @@ impl Machine {
     pub(crate) fn keep(
         &mut self,
         event: Happening,
-        letters: &mut Vec<u8>,
+        packets: &mut Vec<u8>,
     ) -> Result<Outcome, AllocError> {
         happen_keeping(
             &mut self.p,
             &mut self.inputs,
             &mut self.states,
             event,
-            letters,
+            packets,
         )
     }
 

@@ -3,13 +3,13 @@ use Rattle.std.proofs.lemmas.List.{append-nil, take_at}
 use Rattle.peer.specs.Peers.{Event}
 use Rattle.session.specs.Events.{event_of}
 use Rattle.session.specs.Following.{GivesEvent}
-use Rattle.session.specs.Rows.{After, letters, log_after, memory}
+use Rattle.session.specs.Rows.{After, log_after, memory, packets_sent}
 use Rattle.session.proofs.Filed.{Given, given_more, given_all, one_row}
 use Rattle.session.proofs.Kept.{carried}
 use Rattle.play.proofs.play.Goals as goal
 
 pub loop-event-init : goal.loop-event-init
-unfolding letters
+unfolding packets_sent
 loop-event-init c =
     let start : Given c.args.row.file.now [] c.into_iter-event-iterator.result = search rules in
     record {
@@ -43,7 +43,7 @@ loop-event-preserved c =
             let now = so_far seat window before a in
             let P : List ℕ → List ℕ → Type 0 = λ us vs. After seat window (before ++ es) (memory c.loop-event.p us vs) in
             let lent = subst (λ us. P us c.deref_mut-in-loop-event.result.now) (sym c.deref_mut.ensures.value) (subst (P xs.items) (sym c.deref_mut-in-loop-event.ensures.value) now.0) in
-            carried seat window before es e did.p _ _ did.inputs did.states _ _ (c.happen_keeping.ensures.row seat window (before ++ es) lent) now.1 (c.in_ok-outcome.ensures.letters seat window (before ++ es) lent) all_xs all_ys,
+            carried seat window before es e did.p _ _ did.inputs did.states _ _ (c.happen_keeping.ensures.row seat window (before ++ es) lent) now.1 (c.in_ok-outcome.ensures.packets seat window (before ++ es) lent) all_xs all_ys,
       );
     }
 
@@ -55,9 +55,9 @@ returns-clause-row c seat window before es a f =
     let P : List Event → Type 0 = λ xs. After seat window (before ++ xs) (memory c.loop-event.p c.loop-event.memory.inputs.items c.loop-event.memory.states.items) in
     subst P same (carried seat window before a).0
 
-pub returns-clause-letters : goal.returns-clause-letters
-returns-clause-letters c seat window before es a f =
+pub returns-clause-packets : goal.returns-clause-packets
+returns-clause-packets c seat window before es a f =
     let (read, given, carried) = c.loop-event.invariant.read in
     let file = c.args.row.file.now in
     let same : read ≡ es = (one_row file read (given_all file read _ _ c.in-None.ensures.steps given)).0 es f in
-    (carried seat window before a).1 ∙ ap (letters window (log_after window before)) same
+    (carried seat window before a).1 ∙ ap (packets_sent window (log_after window before)) same

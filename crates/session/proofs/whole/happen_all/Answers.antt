@@ -1,4 +1,4 @@
-use Rattle.std.proofs.Common.{◌≡◌, List, [], ◌∷◌, ◌++◌, subst}
+use Rattle.std.proofs.Common.{◌≡◌, List, [], ◌∷◌, ◌++◌, ◌∙◌, subst, arith}
 use Rattle.std.proofs.lemmas.List.{append_assoc}
 use Rattle.peer.specs.Peers.{Event}
 use Rattle.session.specs.Events.{event_of}
@@ -15,9 +15,13 @@ pub loop-event-preserved : goal.loop-event-preserved
 loop-event-preserved c =
     let (es, given, carried) = c.loop-event.invariant.read in
     let e = event_of c.unwrap.result in
+    let did = c.happen.ensures.happens in
+    let same = c.loop-event.invariant.window in
     record {
       can_next = tt;
       is_finite = tt;
+      window = did.window_same ∙ same;
+      behind = λ i h. did.behind i (omega (arith, h, same)) ∙ c.loop-event.invariant.behind i h;
       read = (
         es ++ e ∷ [],
         given_more _ es _ _ _ (rw c.unwrap.ensures at c.in-Some.ensures.steps) given,
@@ -27,8 +31,8 @@ loop-event-preserved c =
       );
     }
 
-pub returns : goal.returns
-returns c seat window before es a f =
+pub returns-clause-row : goal.returns-clause-row
+returns-clause-row c seat window before es a f =
     let (read, given, carried) = c.loop-event.invariant.read in
     let file = c.args.row.file.now in
     let same : read ≡ es = (one_row file read (given_all file read _ _ c.in-None.ensures.steps given)).0 es f in
