@@ -4,8 +4,8 @@
 //
 // SEAT is 0 or 1, N the window, 1 to 60. FILE has events: 0 and an input, or 1, a packet's length in two bytes and its bytes.
 // With `show` the picture follows each line; with `letters` the packets that this peer sends are written to OUT, as events of
-// the other's; with `record` the recording of what it is sure of at the end, to another file. The rules are the library's: here is only
-// reading and printing.
+// the other's; with `record` the recording of the confirmed frames at the end, to another file. The rules are the library's: here is
+// reading and printing, and the loop over the events, whose contract says what all of them leave.
 
 #![tactic(auto)]
 
@@ -193,7 +193,7 @@ fn play(
     Ok(letters)
 }
 
-// The recording of what the peer is sure of.
+// The recording of the peer's confirmed frames.
 fn recording_of(heap: Global, p: &Peer, inputs: &[u8]) -> anyhow::Result<Vec<u8>>
     ensures row { IfOk result (λ bytes. (seat : At) (window : ℕ) (es : List Event) (states : List ℕ) → After seat window es (memory_of p.now inputs.now states) → bytes.items ≡ match_bytes (match_of seat window (log_after window es))) }
 {

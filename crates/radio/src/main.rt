@@ -239,9 +239,9 @@ fn compare(left: &[u8], right: &[u8], frames: usize) -> Result<(), usize> {
 
 // Whether both machines agree in the frames that are confirmed at both.
 fn print_agreement(rt: &HostRuntime, both: Both, left: &[u8], right: &[u8]) -> anyhow::Result<()> {
-    let sure = both.left.peer.confirmed().min(both.right.peer.confirmed());
-    match compare(left, right, sure) {
-        Ok(()) => println!(rt; "same {sure}")?,
+    let confirmed = both.left.peer.confirmed().min(both.right.peer.confirmed());
+    match compare(left, right, confirmed) {
+        Ok(()) => println!(rt; "same {confirmed}")?,
         Err(frame) => println!(rt; "different at {frame}")?,
     }
     Ok(())

@@ -17,7 +17,7 @@ log_after window es = run is_input window new_log es
 abbrev pub memory : Peer → List ℕ → List ℕ → Memory
 memory p inputs states = record { peer = p; inputs = inputs; states = states }
 
--- memory in which a session was begun and to which a row of events happened, right and wrong
+-- memory as a session has it that was begun and to which a row of events happened, right and wrong: it stands for their log
 abbrev pub After : Seat → ℕ → List Event → Memory → Type 0
 After seat window es m = StandsFor court_saved seat window (log_after window es) m
 
