@@ -8,7 +8,8 @@ use Rattle.game.specs.declared.seat.Seat.{Seat}
 use Rattle.game.specs.declared.seat.Seat.TheVariants.{Left, Right}
 use Rattle.packet.specs.declared.fault.Fault.{Fault}
 use Rattle.packet.specs.Wire.{Message, start_checked, rest_checked, reading}
-use Rattle.peer.specs.Peers.{Log, Event, tick, arrival, new_log, goes_on, joined, heard, event, run, shows, confirmed_at, sends}
+use Rattle.peer.specs.Peers.{Log, Event, tick, arrival, new_log, goes_on, joined, heard, event, run, shows, predicted, confirmed_at, sends}
+use Rattle.peer.proofs.Shows.{predicted_came, predicted_same}
 use Rattle.network.specs.Network.{written}
 use Rattle.network.specs.Promise.{Begins, StaysSure, Guessed, SendsWritten}
 use Rattle.network.proofs.Beginnings.{begins_refl, begins_more, begins_trans, begins_length, begins_take}
@@ -117,10 +118,20 @@ stays_sure S g seat fits window log es =
           (sym (begins_take k log.other to.other p.other (omega arith))),
     )
 
-pub guessed : (S : Type 0) → Guessed S
+-- what is shown depends on the own inputs and the prediction alone
+shows_same : {S : Type 0} (g : Game S) (seat : Seat) (log to : Log) → to.own ≡ log.own → predicted to ≡ predicted log → shows g seat to ≡ shows g seat log
 unfolding shows
-guessed S g Left fits window log xs e = ap₂ (plays g g.start) (arrival_own fits window log xs) (sym e)
-guessed S g Right fits window log xs e = ap₂ (plays g g.start) (sym e) (arrival_own fits window log xs)
+shows_same g Left log to p q = ap₂ (plays g g.start) p q
+shows_same g Right log to p q = ap₂ (plays g g.start) q p
+
+pub guessed : (S : Type 0) → Guessed S
+guessed S g seat fits window log xs =
+    let to : Log = event fits window log (arrival xs) in
+    let own : to.own ≡ log.own = arrival_own fits window log xs in
+    let more : length log.other ≤ length to.other = begins_length log.other to.other (event_grows fits window log (arrival xs)).other in (
+      λ right. let same : predicted to ≡ predicted log = predicted_same log to own more right in (same, shows_same g seat log to own same),
+      predicted_came log to own,
+    )
 
 pub sends_is : (log : Log) → log.acked ≤ length log.own → sends log ≡ written log log.acked 120
 unfolding written

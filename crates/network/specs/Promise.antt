@@ -7,7 +7,7 @@ use Rattle.game.specs.Seats.{facing}
 use Rattle.game.specs.declared.seat.Seat.{Seat}
 use Rattle.game.specs.declared.seat.Seat.TheVariants.{Left, Right}
 use Rattle.packet.specs.Wire.{message_bytes, reading}
-use Rattle.peer.specs.Peers.{Log, Event, new_log, event, run, shows, predicted, confirmed, confirmed_at, sends}
+use Rattle.peer.specs.Peers.{Log, Event, new_log, event, run, shows, predicted, AsPredicted, confirmed, confirmed_at, sends}
 use Rattle.network.specs.Network.{Network, Turn, send, deliver, peer_at, packets_to, written, network}
 
 -- a list is the beginning of another
@@ -100,12 +100,14 @@ StaysSure S =
     (g : Game S) (seat : Seat) (fits : ℕ → Bool) (window : ℕ) (log : Log) (es : List Event) →
     Stays g seat log (run fits window log es)
 
--- where the predictions were right, nothing that is shown changes
+-- where the inputs that came are those that were predicted, and only there, the prediction does not change; then nothing that is
+-- shown does
 abbrev pub Guessed : Type 0 → Type 0
 Guessed S =
     (g : Game S) (seat : Seat) (fits : ℕ → Bool) (window : ℕ) (log : Log) (xs : List ℕ) →
     let to : Log = event fits window log (Event.arrival xs) in
-    predicted log ≡ predicted to → shows g seat to ≡ shows g seat log
+    (AsPredicted log to → (predicted to ≡ predicted log) × (shows g seat to ≡ shows g seat log))
+    × (predicted to ≡ predicted log → AsPredicted log to)
 
 -- what a peer sends is one of the packets that a peer of a network may write
 abbrev pub SendsWritten : Type 0

@@ -44,8 +44,7 @@ pub fn stays_sure<S>()
     ensures { StaysSure S }
 {}
 
-// Where the predictions were right, nothing that is shown changes.
-#[tactic(auto, using(crate::proofs::OnePeer::guessed))]
+// Where the inputs that came are those that were predicted, nothing that is predicted or shown changes.
 pub fn guessed<S>()
     ensures { Guessed S }
 {}

@@ -9,7 +9,7 @@ use Rattle.game.specs.declared.seat.Seat.TheVariants.{Left, Right}
 use Rattle.game.proofs.Plays.{plays_append}
 use Rattle.peer.specs.declared.numbers.Peer.{Peer}
 use Rattle.peer.specs.Lent.{Long, log_of, seated, state_at, own_at, other_at, after}
-use Rattle.peer.specs.Peers.{Log, filled, predicted, shows}
+use Rattle.peer.specs.Peers.{Log, filled, predicted, AsPredicted, shows}
 use Rattle.peer.proofs.Logs.{own_long}
 
 -- ---- states by inputs
@@ -84,6 +84,39 @@ filled_last (suc m) d (x ∷ (y ∷ ys)) (suc i) h k p =
     let e : length (y ∷ ys) - 1 ≡ length ys = omega arith in
     let f : length (x ∷ (y ∷ ys)) - 1 ≡ suc (length ys) = omega arith in
     filled_last m x (y ∷ ys) i (omega arith) (omega arith) (omega arith) ∙ ap (λ n. get_or (y ∷ ys) n 0) e ∙ sym (ap (λ n. get_or (x ∷ (y ∷ ys)) n 0) f)
+
+-- inputs that come as they were predicted leave the prediction as it was
+filled_same : (m d : ℕ) (xs ys : List ℕ) → length xs ≤ length ys → take m ys ≡ take (length ys) (filled m d xs) → filled m d ys ≡ filled m d xs
+unfolding filled
+filled_same zero d xs ys l e = refl
+filled_same (suc m) d [] [] l e = refl
+filled_same (suc m) d (x ∷ xs) [] l e = let no : ⊥ = omega arith in absurd no
+filled_same (suc m) d [] (y ∷ ys) l e =
+    let first : y ≡ d = ap (λ zs. get_or zs 0 0) e in
+    let rest : filled m d ys ≡ filled m d [] = filled_same m d [] ys (omega arith) (ap (drop 1) e) in
+    cc
+filled_same (suc m) d (x ∷ xs) (y ∷ ys) l e =
+    let first : y ≡ x = ap (λ zs. get_or zs 0 0) e in
+    let rest : filled m x ys ≡ filled m x xs = filled_same m x xs ys (omega arith) (ap (drop 1) e) in
+    cc
+
+-- and only these do: the first inputs of a prediction are those that came
+came_filled : (m d : ℕ) (xs : List ℕ) → take m xs ≡ take (length xs) (filled m d xs)
+unfolding filled
+came_filled zero d [] = refl
+came_filled zero d (x ∷ xs) = refl
+came_filled (suc m) d [] = refl
+came_filled (suc m) d (x ∷ xs) = ap (λ zs. x ∷ zs) (came_filled m x xs)
+
+pub predicted_came : (before after : Log) → after.own ≡ before.own → predicted after ≡ predicted before → AsPredicted before after
+predicted_came before after e same =
+    ap (λ zs. take (length zs) after.other) (sym e)
+    ∙ came_filled (length after.own) 0 after.other
+    ∙ ap (take (length after.other)) same
+
+pub predicted_same : (before after : Log) → after.own ≡ before.own → length before.other ≤ length after.other → AsPredicted before after → predicted after ≡ predicted before
+predicted_same before after e l right =
+    ap (λ zs. filled (length zs) 0 after.other) e ∙ filled_same (length before.own) 0 before.other after.other l right
 
 -- the other's inputs in lent memory, predicted where they have not come, frame by frame
 filled_is : (inputs : List ℕ) (a b i : ℕ) → 1000000 + b ≤ length inputs → i < a → get_or (filled a 0 (take b (drop 1000000 inputs))) i 0 ≡ other_at b inputs i

@@ -1,6 +1,6 @@
 -- What a peer is and does: it plays on without waiting for the other's inputs, and predicts those that have not come.
 -- Assumes nothing: these are definitions.
-use Rattle.std.specs.Prelude.{ℕ, zero, suc, ◌+◌, ◌-◌, min, max, Bool, cond, ◌&&◌, List, [], ◌∷◌, ◌++◌, length, take, drop, Ok, Err, Result, ◌==◌, nat_lt}
+use Rattle.std.specs.Prelude.{◌≡◌, ℕ, zero, suc, ◌+◌, ◌-◌, min, max, Bool, cond, ◌&&◌, List, [], ◌∷◌, ◌++◌, length, take, drop, Ok, Err, Result, ◌==◌, nat_lt}
 use Rattle.std.specs.List.{common_prefix_len}
 use Rattle.game.specs.Plain.{Game, plays}
 use Rattle.game.specs.declared.seat.Seat.{Seat}
@@ -58,6 +58,10 @@ filled (suc n) d (x ∷ xs) = x ∷ filled n x xs
 
 abbrev pub predicted : Log → List ℕ
 predicted log = filled (length log.own) 0 log.other
+
+-- what came of the other's inputs since is what was predicted, as far as frames were played
+abbrev pub AsPredicted : Log → Log → Type 0
+AsPredicted before after = take (length before.own) after.other ≡ take (length after.other) (predicted before)
 
 -- the plain game with its own inputs and the other's, predicted where they have not come
 unfoldable pub shows : {S : Type 0} → Game S → Seat → Log → S

@@ -5,9 +5,9 @@ use Rattle.std.specs.List.{common_prefix_len}
 use Rattle.game.specs.Plain.{Game}
 use Rattle.peer.specs.declared.numbers.Peer.{Peer}
 use Rattle.peer.specs.Lent.{Long, log_of, own_at, other_at, after}
-use Rattle.peer.specs.Peers.{predicted, to_play}
-use Rattle.peer.proofs.Logs.{own_long}
-use Rattle.peer.proofs.Shows.{state_same, predicted_long, predicted_at}
+use Rattle.peer.specs.Peers.{predicted, AsPredicted, to_play}
+use Rattle.peer.proofs.Logs.{own_long, other_long}
+use Rattle.peer.proofs.Shows.{state_same, predicted_long, predicted_at, predicted_same}
 
 -- ---- what is taken for a frame
 
@@ -84,6 +84,13 @@ to_play_is p q xs ys w lx ly e h same other =
     (λ k d. other (omega arith) (sym (predicted_at p xs w lx (omega arith)) ∙ d ∙ predicted_at q ys w ly (omega arith))) in
     omega arith
 
--- where what is predicted stays, all that is taken does
-pub taken_same : (p q : Peer) (xs ys : List ℕ) (i : ℕ) → Long xs → Long ys → i < p.own → i < q.own → predicted (log_of p xs) ≡ predicted (log_of q ys) → other_at p.other xs i ≡ other_at q.other ys i
-taken_same p q xs ys i lx ly h k e = sym (predicted_at p xs i lx h) ∙ ap (λ zs. get_or zs i 0) e ∙ predicted_at q ys i ly k
+-- where what comes is what was predicted, all that is taken stays
+pub taken_same : (p q : Peer) (xs ys : List ℕ) (i : ℕ) → Long xs → Long ys → i < p.own → p.other ≤ q.other → (log_of q ys).own ≡ (log_of p xs).own → AsPredicted (log_of p xs) (log_of q ys) → other_at p.other xs i ≡ other_at q.other ys i
+taken_same p q xs ys i lx ly h more own right =
+    let a = own_long p xs lx in
+    let b = own_long q ys ly in
+    let c = other_long p xs lx in
+    let d = other_long q ys ly in
+    let long : length (log_of q ys).own ≡ length (log_of p xs).own = ap length own in
+    let same : predicted (log_of q ys) ≡ predicted (log_of p xs) = predicted_same (log_of p xs) (log_of q ys) own (omega arith) right in
+    sym (predicted_at p xs i lx h) ∙ sym (ap (λ zs. get_or zs i 0) same) ∙ predicted_at q ys i ly (omega arith)

@@ -5,7 +5,7 @@ ghost use Rattle.std.specs.Prelude.{◌≡◌, ℕ, ◌+◌, ◌<◌, ◌≤◌,
 ghost use Rattle.packet.specs.Wire.{Proper, message_of, reading};
 ghost use Rattle.rollback.specs.declared.outcome.Outcome.TheVariants.{Taken, Refused};
 ghost use Rattle.peer.specs.Lent.{Untouched, log_of, with_own};
-ghost use Rattle.peer.specs.Peers.{tick as ticked, arrival, predicted};
+ghost use Rattle.peer.specs.Peers.{tick as ticked, arrival, AsPredicted};
 ghost use Rattle.rollback.specs.Said.{as_checked, said_tick, said_arrival};
 ghost use Rattle.peer.specs.Refusals.{begin_checked};
 ghost use Rattle.rollback.specs.Saved.{Roomy, Behind, Kept, Begun, Happened};
@@ -133,7 +133,7 @@ pub fn receive<G: SavedGame>(
     ensures happens { Happened G.saved p.old inputs.old states.old (arrival bytes.now) p.new inputs.new states.new }
     ensures idle { ((n : ℕ) → result ≢ Taken n) → (p.new ≡ p.old) × (inputs.new ≡ inputs.old) × (states.new ≡ states.old) }
     ensures few { (n : ℕ) → result ≡ Taken n → n ≤ p.old.window }
-    ensures guessed { (n : ℕ) → result ≡ Taken n → predicted (log_of p.old inputs.old) ≡ predicted (log_of p.new inputs.new) → (n ≡ 0) × (states.new ≡ states.old) }
+    ensures guessed { (n : ℕ) → result ≡ Taken n → AsPredicted (log_of p.old inputs.old) (log_of p.new inputs.new) → (n ≡ 0) × (states.new ≡ states.old) }
 {
     match read_packet(p, inputs, states, bytes) {
         Ok(packet) => Outcome::Taken(take_in::<G>(p, inputs, states, packet)),

@@ -2,7 +2,7 @@
 ghost use Rattle.std.specs.Prelude.{◌≡◌, ℕ, ◌+◌, ◌<◌, ◌≤◌, MatchOption, Ok, min};
 ghost use Rattle.packet.specs.Wire.{Proper, message_of};
 ghost use Rattle.peer.specs.Lent.{Long, Untouched, log_of, other_at};
-ghost use Rattle.peer.specs.Peers.{heard, predicted, to_play};
+ghost use Rattle.peer.specs.Peers.{heard, AsPredicted, to_play};
 ghost use Rattle.rollback.specs.Saved.{Roomy, Behind, Kept, AsTaken};
 
 use crate::replay::replay;
@@ -37,7 +37,7 @@ pub(crate) fn take_in<G: SavedGame>(
     ensures keeps { Kept G.saved p.old inputs.old states.old → Kept G.saved p.new inputs.new states.new }
     ensures count { result ≡ to_play (log_of p.old inputs.old) (log_of p.new inputs.new) }
     ensures few { result ≤ p.old.window }
-    ensures guessed { predicted (log_of p.old inputs.old) ≡ predicted (log_of p.new inputs.new) → (result ≡ 0) × (states.new ≡ states.old) }
+    ensures guessed { AsPredicted (log_of p.old inputs.old) (log_of p.new inputs.new) → (result ≡ 0) × (states.new ≡ states.old) }
 {
     let came = p.other;
     join(p, inputs, packet);

@@ -13,7 +13,7 @@ use Rattle.session.specs.declared.refused.Refused.{Refused}
 use Rattle.session.specs.declared.refused.Refused.TheVariants as refused
 use Rattle.session.specs.Events.{event_of}
 use Rattle.session.specs.Following.{GivesEvent}
-use Rattle.session.specs.Files.{event_bytes, Sized, FileOf, StandsAt, NoEvent, FaultyAt, OneRow}
+use Rattle.session.specs.Files.{event_bytes, Sized, FileOf, StandsAt, NoEvent, FaultyAt, OneRow, OneFault}
 
 -- ---- bytes that came, at a place
 
@@ -97,6 +97,25 @@ not_faulty (e ∷ es) (b ∷ bs) rest h k is more none =
 pub one_row : OneRow
 one_row file es f =
     (λ fs g. same_rows es fs f.sized g.sized (sym f.bytes_are ∙ g.bytes_are), λ at g. not_faulty es g.before g.rest f.sized g.front.sized (sym f.bytes_are ∙ g.bytes_are) g.more g.none)
+
+-- events up to bytes with none at their front are the same ones, wherever these bytes begin
+same_before : (es fs : List Event) (r s : List ℕ) → AllByRecursion Sized es → AllByRecursion Sized fs → flat_map event_bytes es ++ r ≡ flat_map event_bytes fs ++ s → NoEvent r → NoEvent s → es ≡ fs
+same_before [] [] r s h k is n m = refl
+same_before [] (f ∷ fs) r s h k is n m =
+    absurd (n f (flat_map event_bytes fs ++ s) k.0 (is ∙ append_assoc (event_bytes f) (flat_map event_bytes fs) s))
+same_before (e ∷ es) [] r s h k is n m =
+    absurd (m e (flat_map event_bytes es ++ r) h.0 (sym is ∙ append_assoc (event_bytes e) (flat_map event_bytes es) r))
+same_before (e ∷ es) (f ∷ fs) r s h k is n m =
+    let p = same_front e f (flat_map event_bytes es ++ r) (flat_map event_bytes fs ++ s) h.0 k.0 (sym (append_assoc (event_bytes e) (flat_map event_bytes es) r) ∙ is ∙ append_assoc (event_bytes f) (flat_map event_bytes fs) s) in
+    let first : e ≡ f = p.0 in
+    let rest : es ≡ fs = same_before es fs r s h.1 k.1 p.1 n m in
+    cc
+
+pub one_fault : OneFault
+one_fault file at at' f g =
+    f.place_is
+    ∙ ap (λ es. length (flat_map event_bytes es)) (same_before f.before g.before f.rest g.rest f.front.sized g.front.sized (sym f.bytes_are ∙ g.bytes_are) f.none g.none)
+    ∙ sym g.place_is
 
 -- ---- a file event by event
 

@@ -1,4 +1,4 @@
--- Events in bytes, one behind the other. Assumes nothing: these are definitions, and a statement that is proved in proofs/.
+-- Events in bytes, one behind the other. Assumes nothing: these are definitions, and statements that are proved in proofs/.
 use Rattle.std.specs.Prelude.{◌≡◌, ℕ, ◌+◌, ◌<◌, ◌≤◌, List, [], ◌∷◌, ◌++◌, length, drop, ◌≢◌}
 use Rattle.std.specs.List.{flat_map, AllByRecursion}
 use Rattle.byte_numbers.specs.Little.{little}
@@ -45,3 +45,7 @@ abbrev pub OneRow : Type 0
 OneRow =
     (file : List ℕ) (es : List Event) → FileOf es file →
     ((fs : List Event) → FileOf fs file → es ≡ fs) × ((at : ℕ) → FaultyAt file at → ⊥)
+
+-- and no file is in fault at two bytes
+abbrev pub OneFault : Type 0
+OneFault = (file : List ℕ) (at at' : ℕ) → FaultyAt file at → FaultyAt file at' → at ≡ at'

@@ -9,7 +9,7 @@ ghost use Rattle.packet.specs.Wire.{message_length};
 ghost use Rattle.peer.specs.Lent.{Long, LongStates, log_of};
 ghost use Rattle.peer.specs.Refusals.{begin_checked};
 ghost use Rattle.network.specs.Promise.{Stays};
-ghost use Rattle.peer.specs.Peers.{Event, Log, arrival, predicted, shows, sends};
+ghost use Rattle.peer.specs.Peers.{Event, Log, arrival, AsPredicted, shows, sends};
 ghost use Rattle.rollback.specs.declared.outcome.Outcome.TheVariants.{Taken};
 ghost use Rattle.peer.specs.declared.refusal.Refusal.TheVariants.{States};
 ghost use Rattle.picture.specs.Picture.{picture_of};
@@ -77,7 +77,7 @@ fn carry_out(p: &mut Peer, inputs: &mut [u8], states: &mut [u8], event: Happenin
     ensures idle { ((n : ℕ) → result ≢ Taken n) → (p.new ≡ p.old) × (inputs.new ≡ inputs.old) × (states.new ≡ states.old) }
     ensures few { (n : ℕ) → result ≡ Taken n → n ≤ p.old.window }
     ensures long { writes (event_of event.entry) result ≡ true → Long inputs.new }
-    ensures guessed { (xs : List ℕ) → event_of event.entry ≡ arrival xs → predicted (log_of p.old inputs.old) ≡ predicted (log_of p.new inputs.new) → ((n : ℕ) → result ≡ Taken n → n ≡ 0) × (states.new ≡ states.old) }
+    ensures guessed { (xs : List ℕ) → event_of event.entry ≡ arrival xs → AsPredicted (log_of p.old inputs.old) (log_of p.new inputs.new) → ((n : ℕ) → result ≡ Taken n → n ≡ 0) × (states.new ≡ states.old) }
 {
     match event {
         Happening::Tick(input) => tick::<Held>(p, inputs, states, input),
@@ -118,7 +118,7 @@ pub fn happen(
     ensures idle { ((n : ℕ) → result.outcome ≢ Taken n) → (p.new ≡ p.old) × (inputs.new ≡ inputs.old) × (states.new ≡ states.old) }
     ensures stays { (seat : At) → Stays court_game seat (log_of p.old inputs.old) (log_of p.new inputs.new) }
     ensures few { (n : ℕ) → result.outcome ≡ Taken n → n ≤ p.old.window }
-    ensures guessed { (xs : List ℕ) → event_of event.entry ≡ arrival xs → predicted (log_of p.old inputs.old) ≡ predicted (log_of p.new inputs.new) → ((n : ℕ) → result.outcome ≡ Taken n → n ≡ 0) × (states.new ≡ states.old) }
+    ensures guessed { (xs : List ℕ) → event_of event.entry ≡ arrival xs → AsPredicted (log_of p.old inputs.old) (log_of p.new inputs.new) → ((n : ℕ) → result.outcome ≡ Taken n → n ≡ 0) × (states.new ≡ states.old) }
     ensures sent { result.sent ≡ sent (writes (event_of event.entry) result.outcome) (sends (log_of p.new inputs.new)) }
     ensures packet { out.new ≡ packet_over (writes (event_of event.entry) result.outcome) (sends (log_of p.new inputs.new)) out.old }
     ensures own { (seat : At) (window : ℕ) (es : List Event) → After seat window es (memory p.old inputs.old states.old) → WritesOwn window (es ++ event_of event.entry ∷ []) (writes (event_of event.entry) result.outcome) out.old result.sent out.new }

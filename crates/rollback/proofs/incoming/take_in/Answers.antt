@@ -1,4 +1,4 @@
-use Rattle.std.proofs.Common.{◌≡◌, ◌<◌, min, refl, arith, rules}
+use Rattle.std.proofs.Common.{◌≡◌, ◌<◌, min, refl, ap, arith, rules}
 use Rattle.peer.specs.Lent.{Long, seated}
 use Rattle.rollback.specs.Saved.{Saved}
 use Rattle.rollback.proofs.Joins.{found, found_after}
@@ -36,7 +36,7 @@ returns-in-Some g c =
           (found_after (seated p.seat r.game) p q xs ys w (omega arith) f) kept _ (omega (arith, new)) (omega arith)));
       count = omega (arith, c.replay.ensures.count, n);
       few = omega (arith, c.replay.ensures.count, new, p.ahead);
-      guessed = λ e. absurd (f.wrong behind (taken_same p q xs ys w c.requires.roomy.inputs_long ly behind (omega arith) e));
+      guessed = λ e. absurd (f.wrong behind (taken_same p q xs ys w c.requires.roomy.inputs_long ly behind j.more (ap (λ l. l.own) j.log) e));
     }
 
 pub returns-in-None : goal.returns-in-None
