@@ -1,9 +1,9 @@
-use Rattle.std.proofs.Common.{rules, ◌≡◌, ◌+◌, ◌≤◌, [], map, get_or, take, vec_items, refl, ap, ◌∙◌, arith}
+use Rattle.std.proofs.Common.{rules, ◌≡◌, ◌+◌, ◌≤◌, [], map, get_or, take, vec_items, refl, ap, subst, ◌∙◌, arith}
 use Rattle.game.specs.declared.seat.Seat.TheVariants.{Left, Right}
 use Rattle.exchange.specs.declared.moves.Act.TheVariants.{Tick}
 use Rattle.exchange.specs.declared.moves.Move.{Move}
 use Rattle.peer.specs.Lent.{log_of}
-use Rattle.peer.specs.Peers.{confirmed}
+use Rattle.peer.specs.Peers.{Log, confirmed}
 use Rattle.session.specs.Rows.{After, memory}
 use Rattle.exchange.specs.Agreed.{Agree}
 use Rattle.exchange.specs.Moves.{acted, after_moves, memory_of, moves_on}
@@ -62,4 +62,5 @@ returns-clause-sure c = λ m ts e came.
     let l = memory_of c.loop-step.left in
     let r = memory_of c.loop-step.right in
     let sure : (m ≤ confirmed (log_of l.peer l.inputs)) × (m ≤ confirmed (log_of r.peer r.inputs)) = holds_sure c.args.window row l r _ _ m ts (holds_all c.args.window row c.loop-step.step-index l r _ _ (omega arith) c.loop-step.invariant.0) e came in
-    search (rules, sure)
+    let P : Log → Type 0 = λ log. m ≤ confirmed log in
+    (subst P (ap (log_of l.peer) (search rules)) sure.0, subst P (ap (log_of r.peer) (search rules)) sure.1)
