@@ -14,6 +14,7 @@ ghost use Rattle.peer.specs.Lent.{log_of};
 ghost use Rattle.peer.specs.Peers.{confirmed};
 ghost use Rattle.exchange.specs.Moves.{after_moves, court_network, PeerAt};
 ghost use Rattle.exchange.specs.Agreed.{Agree};
+ghost use Rattle.exchange.specs.Tallies.{tally_after};
 ghost use Rattle.session.specs.Rows.{memory};
 
 use crate::machine::Machine;
@@ -83,6 +84,7 @@ pub fn play_moves(
     ensures idle { (f : Faults) → result ≡ Err (Unbegun f) → (left_inputs.new ≡ left_inputs.old) × (left_states.new ≡ left_states.old) × (right_inputs.new ≡ right_inputs.old) × (right_states.new ≡ right_states.old) }
     ensures left { IfOk result (λ b. PeerAt window (after_moves window row.now) Left (memory b.left.peer left_inputs.new left_states.new)) }
     ensures right { IfOk result (λ b. PeerAt window (after_moves window row.now) Right (memory b.right.peer right_inputs.new right_states.new)) }
+    ensures tally { IfOk result (λ b. (b.left.tally ≡ tally_after window Left row.now) × (b.right.tally ≡ tally_after window Right row.now)) }
     ensures agree { IfOk result (λ b. Agree window (log_of b.left.peer left_inputs.new) (log_of b.right.peer right_inputs.new)) }
     ensures sure { IfOk result (λ b. (m : ℕ) (ts : List Turn) → after_moves window row.now ≡ court_network window ts → ((seat : At) → Came is_input window m ts seat) → (m ≤ confirmed (log_of b.left.peer left_inputs.new)) × (m ≤ confirmed (log_of b.right.peer right_inputs.new))) }
 {
