@@ -109,6 +109,9 @@ pub after_network : (window : ℕ) (ms : List Move) → (ts : List Turn) × (aft
 unfolding turns
 after_network window ms = moves_network window new_network ms ([], refl)
 
+pub acted_turns : (window : ℕ) (ts : List Turn) (seat : Seat) (act : Act) → (us : List Turn) × (acted window (court_network window ts) seat act ≡ court_network window us)
+acted_turns window ts seat act = acted_network window (court_network window ts) seat act (ts, refl)
+
 -- ---- so both agree
 
 -- recordings of the same inputs

@@ -1,9 +1,8 @@
 -- One machine's moves, as turns of a network. Assumes nothing.
-use Rattle.std.proofs.Common.{◌≡◌, ℕ, ◌+◌, ◌*◌, ◌<◌, ◌≤◌, Bool, true, false, cond, ltb, leb, List, [], ◌∷◌, ◌++◌, map, length, get_or, take, drop, vec_items, Some, None, Ok, Vec, Global, sym, refl, ap, ◌∙◌, subst, arith, length-append, le-ltb}
+use Rattle.std.proofs.Common.{◌≡◌, ℕ, ◌+◌, ◌*◌, ◌<◌, ◌≤◌, Bool, true, false, cond, ltb, leb, List, [], ◌∷◌, ◌++◌, map, length, get_or, vec_items, Ok, Vec, Global, sym, refl, ap, ◌∙◌, subst, arith, le-ltb}
 use Rattle.std.proofs.ByRecursion.{All-get_or}
-use Rattle.std.proofs.lemmas.List.{map_push, take_at, length-map, get_or-map}
+use Rattle.std.proofs.lemmas.List.{map_push, length-map, get_or-map}
 use Rattle.std.proofs.lemmas.Bool.{leb-true}
-use Rattle.byte_numbers.specs.Little.{little}
 use Rattle.court_game.specs.Saved.{court_saved}
 use Rattle.game.specs.declared.seat.Seat.{Seat}
 use Rattle.game.specs.declared.seat.Seat.TheVariants.{Left, Right}
@@ -13,19 +12,18 @@ use Rattle.network.proofs.Arrivals.{peer_there, packets_there}
 use Rattle.network.proofs.Networks.{none_refused}
 use Rattle.network.proofs.OnePeer.{sends_is}
 use Rattle.network.proofs.Rows.{handed_there, handed_past}
-use Rattle.packet.specs.Wire.{Message, message_bytes, message_length, reading}
+use Rattle.packet.specs.Wire.{Message, message_bytes, reading}
 use Rattle.rollback.specs.declared.outcome.Outcome.{Outcome}
-use Rattle.rollback.specs.declared.outcome.Outcome.TheVariants.{Taken, Lost, Refused}
+use Rattle.rollback.specs.declared.outcome.Outcome.TheVariants.{Refused}
 use Rattle.peer.specs.declared.refusal.Refusal.{Refusal}
-use Rattle.peer.specs.declared.refusal.Refusal.TheVariants.{Input}
 use Rattle.peer.specs.Lent.{log_of}
-use Rattle.peer.specs.Peers.{Log, tick, arrival, event, run, goes_on, sends}
-use Rattle.rollback.specs.Said.{said_tick, said_read, said_arrival}
+use Rattle.peer.specs.Peers.{Log, tick, arrival, event, run, sends}
+use Rattle.rollback.specs.Said.{said_read, said_arrival}
 use Rattle.peer.proofs.Logs.{own_long}
 use Rattle.rollback.specs.Rows.{Memory, StandsFor}
 use Rattle.rollback.specs.Saved.{Happened}
 use Rattle.rollback.proofs.Rowed.{stands_more}
-use Rattle.session.specs.Events.{said, writes, sent, packet_over}
+use Rattle.session.specs.Events.{said}
 use Rattle.exchange.specs.declared.moves.Act.TheVariants.{Tick, Deliver}
 use Rattle.session.specs.Rows.{After}
 use Rattle.exchange.specs.Moves.{court_network, court_turn, sends_at, acted, PeerAt, PacketsAt}

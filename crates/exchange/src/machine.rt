@@ -1,12 +1,13 @@
 // One of the two machines: a tick with the packet that it writes, and a packet that comes.
-ghost use Rattle.std.specs.Prelude.{◌≡◌, ℕ, List, Some, length, is_some, IfOk, IfSome, OnOk, ◌≢◌, nat_lt};
+ghost use Rattle.std.specs.Prelude.{◌≡◌, ℕ, true, List, Some, None, length, is_some, is_err, IfOk, IfSome, OnOk, ◌≢◌, nat_lt};
 ghost use Rattle.game.specs.declared.seat.Seat.{Seat as At};
 ghost use Rattle.network.specs.Network.{Network, Turn, facing};
 ghost use Rattle.rollback.specs.declared.outcome.Outcome.TheVariants.{Refused as Unfit};
+ghost use Rattle.peer.specs.Peers.{tick, arrival};
 ghost use Rattle.peer.specs.declared.refusal.Refusal.{Refusal};
 ghost use Rattle.exchange.specs.declared.moves.Act.TheVariants.{Tick, Deliver};
-ghost use Rattle.exchange.specs.Moves.{court_network, acted, memory_of, SameLent, PeerAt, PacketsAt};
-ghost use Rattle.exchange.specs.Tallies.{counted_by};
+ghost use Rattle.exchange.specs.Moves.{court_network, acted, memory_of, said_of, bytes_of, HappenedTo, SameLent, PeerAt, PacketsAt};
+ghost use Rattle.exchange.specs.Tallies.{counted_by, counted_at};
 
 use crate::moves::Act;
 use crate::tally::Tally;
@@ -26,11 +27,14 @@ pub struct Machine<'a> {
 }
 
 impl<'a> Machine<'a> {
-    // A frame's time, and the packet that is then written.
+    // A frame's time, and the packet that is then written. Without memory for the packet the event has happened all the same.
     // `deliver` calls `happen` in the same way: a function for both would have to repeat all that `happen` ensures.
     pub fn tick(&mut self, input: u8, sent: &mut Vec<Vec<u8>>) -> Result<Outcome, AllocError>
         ensures at { OnOk result ((window : ℕ) (n : Network) (seat : At) → PeerAt window n seat (memory_of self.old) → PacketsAt n (facing seat) sent.old.items → PeerAt window (acted window n seat (Tick input)) seat (memory_of self.new) × PacketsAt (acted window n seat (Tick input)) (facing seat) sent.new.items) }
-        ensures tally { IfOk result (λ o. self.new.tally ≡ counted_by (Tick input) o self.old.tally) }
+        ensures answer { IfOk result (λ o. o ≡ said_of self.old (tick input)) }
+        ensures happens { HappenedTo self.old (tick input) self.new }
+        ensures unsent { is_err result ≡ true → sent.new.items ≡ sent.old.items }
+        ensures tally { self.new.tally ≡ counted_by (Tick input) (said_of self.old (tick input)) self.old.tally }
         ensures lent { SameLent self.old self.new }
     {
         let mut out = [0; PACKET_LENGTH];
@@ -55,6 +59,9 @@ impl<'a> Machine<'a> {
         ensures there { is_some result ≡ nat_lt number (length packets.now) }
         ensures at { (window : ℕ) (n : Network) (seat : At) → PeerAt window n seat (memory_of self.old) → PacketsAt n seat packets.now → PeerAt window (acted window n seat (Deliver number)) seat (memory_of self.new) }
         ensures taken { (window : ℕ) (ts : List Turn) (seat : At) → PeerAt window (court_network window ts) seat (memory_of self.old) → PacketsAt (court_network window ts) seat packets.now → (f : Refusal) → result ≢ Some (Unfit f) }
+        ensures answer { IfSome result (λ o. o ≡ said_of self.old (arrival (bytes_of packets.now number))) }
+        ensures happens { is_some result ≡ true → HappenedTo self.old (arrival (bytes_of packets.now number)) self.new }
+        ensures idle { result ≡ None → self.new ≡ self.old }
         ensures tally { IfSome result (λ o. self.new.tally ≡ counted_by (Deliver number) o self.old.tally) }
         ensures lent { SameLent self.old self.new }
     {
@@ -79,6 +86,7 @@ impl<'a> Machine<'a> {
         sent: &mut Vec<Vec<u8>>,
     ) -> Result<(), AllocError>
         ensures at { OnOk result ((window : ℕ) (n : Network) (seat : At) → PeerAt window n seat (memory_of self.old) → PacketsAt n seat packets.now → PacketsAt n (facing seat) sent.old.items → PeerAt window (acted window n seat act) seat (memory_of self.new) × PacketsAt (acted window n seat act) (facing seat) sent.new.items) }
+        ensures tally { (window : ℕ) (n : Network) (seat : At) → PeerAt window n seat (memory_of self.old) → PacketsAt n seat packets.now → self.new.tally ≡ counted_at window n seat act self.old.tally }
         ensures lent { SameLent self.old self.new }
     {
         match act {
