@@ -1,5 +1,5 @@
 -- All packets that a peer writes over a row of events. Assumes nothing.
-use Rattle.std.proofs.Common.{◌≡◌, ℕ, Bool, true, false, cond, leb, List, [], ◌∷◌, ◌++◌, take, Some, None, Option, sym, refl, ap, ◌∙◌, append-nil, subst}
+use Rattle.std.proofs.Common.{◌≡◌, ℕ, Bool, cond, leb, List, [], ◌∷◌, ◌++◌, take, Some, None, Option, sym, refl, ap, ◌∙◌, append-nil, subst}
 use Rattle.std.proofs.lemmas.List.{append_assoc}
 use Rattle.game.specs.declared.seat.Seat.{Seat}
 use Rattle.network.proofs.Rows.{run_append}

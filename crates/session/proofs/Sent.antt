@@ -5,8 +5,7 @@ use Rattle.std.proofs.lemmas.List.{take_at}
 use Rattle.byte_numbers.specs.Little.{little}
 use Rattle.court_game.specs.Saved.{court_saved}
 use Rattle.game.specs.declared.seat.Seat.{Seat}
-use Rattle.packet.specs.Wire.{Message, message_bytes, message_length, reading, writing}
-use Rattle.packet.specs.declared.fault.Fault.{Fault}
+use Rattle.packet.specs.Wire.{Message, message_bytes, message_length, writing}
 use Rattle.packet.specs.declared.fault.Unwritten.{Unwritten}
 use Rattle.peer.specs.declared.refusal.Refusal.TheVariants.{Input}
 use Rattle.peer.specs.Lent.{log_of}

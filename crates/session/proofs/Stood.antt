@@ -1,5 +1,5 @@
 -- Where a peer stands, by its numbers. Assumes nothing.
-use Rattle.std.proofs.Common.{◌≡◌, ℕ, min, List, length, sym, ap, ◌∙◌}
+use Rattle.std.proofs.Common.{◌≡◌, ℕ, min, length, sym, ap, ◌∙◌}
 use Rattle.court.specs.declared.state.Score.{Score}
 use Rattle.court.specs.declared.state.State.{State}
 use Rattle.court_game.specs.Saved.{court_saved}

@@ -1,11 +1,12 @@
 // The packets that a peer sends, kept as events of the other's file.
 ghost use Rattle.std.specs.Prelude.{◌≡◌, ℕ, ◌≤◌, true, List, [], ◌∷◌, ◌++◌, length, cond, is_err, IfOk, OnOk, ◌≢◌};
-ghost use Rattle.court_game.specs.Games.{is_input};
+ghost use Rattle.court_game.specs.Games.{court_game, is_input};
 ghost use Rattle.court_game.specs.Saved.{court_saved};
 ghost use Rattle.game.specs.declared.seat.Seat.{Seat as At};
 ghost use Rattle.packet.specs.Wire.{message_bytes};
 ghost use Rattle.peer.specs.Lent.{log_of};
-ghost use Rattle.peer.specs.Peers.{Event, arrival, sends};
+ghost use Rattle.network.specs.Promise.{Stays};
+ghost use Rattle.peer.specs.Peers.{Event, AsPredicted, arrival, sends};
 ghost use Rattle.rollback.specs.Saved.{Happened};
 ghost use Rattle.rollback.specs.declared.outcome.Outcome.TheVariants.{Taken};
 ghost use Rattle.session.specs.Events.{event_of, said, writes};
@@ -47,6 +48,8 @@ pub fn happen_keeping(
     ensures row { (seat : At) (window : ℕ) (es : List Event) → After seat window es (memory p.old inputs.old states.old) → After seat window (es ++ event_of event.entry ∷ []) (memory p.new inputs.new states.new) }
     ensures idle { IfOk result (λ o. ((n : ℕ) → o ≢ Taken n) → (p.new ≡ p.old) × (inputs.new ≡ inputs.old) × (states.new ≡ states.old)) }
     ensures few { IfOk result (λ o. (n : ℕ) → o ≡ Taken n → n ≤ p.old.window) }
+    ensures stays { (seat : At) → Stays court_game seat (log_of p.old inputs.old) (log_of p.new inputs.new) }
+    ensures guessed { IfOk result (λ o. (xs : List ℕ) → event_of event.entry ≡ arrival xs → AsPredicted (log_of p.old inputs.old) (log_of p.new inputs.new) → ((n : ℕ) → o ≡ Taken n → n ≡ 0) × (states.new ≡ states.old)) }
     ensures kept { IfOk result (λ o. packets.new.items ≡ packets.old.items ++ cond (writes (event_of event.entry) o) (event_bytes (arrival (message_bytes (sends (log_of p.new inputs.new))))) []) }
     ensures unkept { is_err result ≡ true → packets.new.items ≡ packets.old.items }
     ensures packets { OnOk result ((seat : At) (window : ℕ) (es : List Event) → After seat window es (memory p.old inputs.old states.old) → packets.new.items ≡ packets.old.items ++ packets_sent window (log_after window es) (event_of event.entry ∷ [])) }

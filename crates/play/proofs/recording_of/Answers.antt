@@ -1,4 +1,4 @@
-use Rattle.std.proofs.Common.{◌≡◌, ◌∙◌, min, length, arith, rules}
+use Rattle.std.proofs.Common.{◌≡◌, ◌∙◌, min, length, arith}
 use Rattle.std.proofs.lemmas.List.{take_at}
 use Rattle.recording.specs.Matches.{match_length}
 use Rattle.play.proofs.Recorded.{recorded}
