@@ -1,10 +1,10 @@
 -- Two sessions and the packets between them, as a network. Assumes nothing: these are definitions.
-use Rattle.std.specs.Prelude.{◌≡◌, ℕ, cond, List, [], ◌∷◌, map, length, get_or, vec_items, Vec, nat_le}
+use Rattle.std.specs.Prelude.{◌≡◌, ℕ, Bool, cond, List, [], ◌∷◌, map, length, get_or, vec_items, Vec, nat_le}
 use Rattle.court_game.specs.Games.{is_input}
 use Rattle.std.specs.Global.{Global}
 use Rattle.court_game.specs.Saved.{court_saved}
 use Rattle.game.specs.declared.seat.Seat.{Seat}
-use Rattle.packet.specs.Wire.{message_bytes}
+use Rattle.packet.specs.Wire.{Message, message_bytes}
 use Rattle.network.specs.Network.{Network, Turn, tick, send, deliver, peer_at, packets_to, new_network, turn, network}
 use Rattle.peer.specs.Lent.{log_of}
 use Rattle.peer.specs.Peers.{Event}
@@ -73,6 +73,10 @@ HappenedTo m e k = Happened court_saved m.peer m.inputs.now m.states.now e k.pee
 -- the bytes of a packet, by its number
 abbrev pub bytes_of : List (Vec ℕ Global) → ℕ → List ℕ
 bytes_of ps k = get_or (map vec_items ps) k []
+
+-- the bytes of a packet, if it is written
+abbrev pub packet_if : Bool → Message → List (List ℕ)
+packet_if b m = cond b (message_bytes m ∷ []) []
 
 -- memory that stands for the peer at a seat of a network
 abbrev pub PeerAt : ℕ → Network → Seat → Memory → Type 0

@@ -1,12 +1,14 @@
 // One of the two machines: a tick with the packet that it writes, and a packet that comes.
-ghost use Rattle.std.specs.Prelude.{◌≡◌, ℕ, true, List, Some, None, length, is_some, is_err, IfOk, IfSome, OnOk, ◌≢◌, nat_lt};
+ghost use Rattle.std.specs.Prelude.{◌≡◌, ℕ, true, List, ◌++◌, map, vec_items, Some, None, length, is_some, is_err, IfOk, IfSome, OnOk, ◌≢◌, nat_lt};
 ghost use Rattle.game.specs.declared.seat.Seat.{Seat as At};
 ghost use Rattle.network.specs.Network.{Network, Turn, facing};
 ghost use Rattle.rollback.specs.declared.outcome.Outcome.TheVariants.{Refused as Unfit};
-ghost use Rattle.peer.specs.Peers.{tick, arrival};
+ghost use Rattle.peer.specs.Peers.{tick, arrival, sends};
+ghost use Rattle.peer.specs.Lent.{log_of};
+ghost use Rattle.session.specs.Events.{writes};
 ghost use Rattle.peer.specs.declared.refusal.Refusal.{Refusal};
 ghost use Rattle.exchange.specs.declared.moves.Act.TheVariants.{Tick, Deliver};
-ghost use Rattle.exchange.specs.Moves.{court_network, acted, memory_of, said_of, bytes_of, HappenedTo, SameLent, PeerAt, PacketsAt};
+ghost use Rattle.exchange.specs.Moves.{court_network, acted, memory_of, said_of, bytes_of, packet_if, HappenedTo, SameLent, PeerAt, PacketsAt};
 ghost use Rattle.exchange.specs.Tallies.{counted_by, counted_at};
 
 use crate::moves::Act;
@@ -33,6 +35,7 @@ impl<'a> Machine<'a> {
         ensures at { OnOk result ((window : ℕ) (n : Network) (seat : At) → PeerAt window n seat (memory_of self.old) → PacketsAt n (facing seat) sent.old.items → PeerAt window (acted window n seat (Tick input)) seat (memory_of self.new) × PacketsAt (acted window n seat (Tick input)) (facing seat) sent.new.items) }
         ensures answer { IfOk result (λ o. o ≡ said_of self.old (tick input)) }
         ensures happens { HappenedTo self.old (tick input) self.new }
+        ensures packet { IfOk result (λ o. map vec_items sent.new.items ≡ map vec_items sent.old.items ++ packet_if (writes (tick input) o) (sends (log_of self.new.peer self.new.inputs.now))) }
         ensures unsent { is_err result ≡ true → sent.new.items ≡ sent.old.items }
         ensures tally { self.new.tally ≡ counted_by (Tick input) (said_of self.old (tick input)) self.old.tally }
         ensures lent { SameLent self.old self.new }
