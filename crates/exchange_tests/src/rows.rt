@@ -167,6 +167,11 @@ fn beginnings(rt: HostRuntime) -> Result<(), Fail> {
         let played = play_row(&rt, window, &mut left, &mut right, &[]);
         assert_eq!(rt; played, Err(Unplayed::Refused(refused)));
         assert_eq!(rt; (refused.number(), refused.place()), (5, place));
+        // Neither machine's memory was written.
+        for memory in [&left, &right] {
+            assert!(rt; memory.inputs.iter().all(|byte| *byte == 7));
+            assert!(rt; memory.states.iter().all(|byte| *byte == 9));
+        }
     }
     Ok(())
 }
