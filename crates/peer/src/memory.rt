@@ -14,6 +14,9 @@ pub const INPUTS: usize = 2 * HALF;
 // As many bytes as the states of the largest window take.
 pub const MOST_STATES: usize = (MOST_WINDOW + 1) * STATE_BYTES;
 
+// No clause here says it; callers lend as much.
+const _: () = prove!(MOST_STATES == 61 * 64);
+
 // Whether the inputs of both seats have room.
 pub fn check_inputs(inputs: &[u8]) -> Result<(), Refusal>
     ensures { MatchResult result (λ _. Long inputs.now) (λ f. (f ≡ Inputs) × (length inputs.now < 2000000)) }
