@@ -1,6 +1,6 @@
 #!/usr/bin/env python3
 """The built programs beside reference.py, on the same command lines: what they print, their status and the files that they write.
-And the commands of examples/README.md: whether they print what stands there.
+And what `replay` shows of a recording beside what `plain` shows of its frames, and the commands of examples/README.md.
 
     compare.py      in a checkout whose programs were built, as `rt ci` and `rt run` do
 
@@ -124,10 +124,27 @@ def example_commands():
         yield command.strip(), done.stdout + done.stderr == re.sub("^    ", "", wanted, flags=re.MULTILINE)
 
 
+def recording_as_plain():
+    """A recording that `play` writes: whether `replay` shows of it what `plain` shows of its first frames."""
+    for seat, name in enumerate(("left", "right")):
+        _, files = result(by_program, ["play", str(seat), "8", os.path.join(EXAMPLES, name + ".events"), "record", "OUT"])
+        recording = files["OUT"]
+        frames = recording[8:8 + int.from_bytes(recording[4:8], "little")]
+        with open("recording", "wb") as file:
+            file.write(recording)
+        for k in (0, 1, 599, 600, 601, 1200, len(frames)):
+            with open("frames", "wb") as file:
+                file.write(frames[:k])
+            shown, _, status = by_program(["replay", "recording", str(k)])
+            plain, _, _ = by_program(["plain", "frames", "show"])
+            yield f"{name}: replay as plain after frame {k}", status == 0 and shown.split("\n")[1:] == plain.split("\n")[1:]
+
+
 def compared():
     """Everything that is compared: its name, and whether it is the same."""
     for words in commands():
         yield ascii(words), result(reference.run, words) == result(by_program, words)
+    yield from recording_as_plain()
     yield from example_files()
     yield from example_commands()
 
