@@ -30,7 +30,7 @@ const FLIGHTS: usize = 32;
 // Numbers by the seed: each state is the one before times FACTOR, plus ADDED. `radio` has them too: a library for two functions
 // would be longer.
 #[derive(Drop)]
-pub struct Random(pub u64);
+pub(crate) struct Random(pub(crate) u64);
 
 const FACTOR: u64 = 6_364_136_223_846_793_005;
 
@@ -77,17 +77,17 @@ impl Air {
 
 // A peer, the memory that it is lent, and what its events came to. It is not `exchange`'s, which keeps all packets.
 #[derive(Drop)]
-pub struct Machine {
+pub(crate) struct Machine {
     peer: Peer,
     inputs: Vec<u8>,
     states: Vec<u8>,
     picture: Vec<u8>,
-    pub events: usize,
-    pub frames: usize,
+    pub(crate) events: usize,
+    pub(crate) frames: usize,
 }
 
 impl Machine {
-    pub fn new(heap: Global, seat: Seat) -> anyhow::Result<Machine> {
+    pub(crate) fn new(heap: Global, seat: Seat) -> anyhow::Result<Machine> {
         let inputs = vec![in heap; 0u8; INPUTS]?;
         let mut states = vec![in heap; 0u8; MOST_STATES]?;
         let picture = vec![in heap; 0u8; LENGTH]?;
@@ -109,7 +109,7 @@ impl Machine {
         Ok(())
     }
 
-    pub fn status(&self) -> Result<Status, Refused> {
+    pub(crate) fn status(&self) -> Result<Status, Refused> {
         status(&self.peer, &self.states)
     }
 
@@ -165,7 +165,7 @@ impl Machine {
 }
 
 // A game of so many ticks, at each the left machine first. Both have their inputs from the same file of frames.
-pub fn play_game(
+pub(crate) fn play_game(
     left: &mut Machine,
     right: &mut Machine,
     ticks: usize,
