@@ -127,9 +127,9 @@ impl Peer {
             Err(fault) => return Outcome::Refused(Refusal::Packet(fault)),
         };
         let came = self.other.len();
-        let guess = self.other.last().copied().unwrap_or(0);
+        let predicted = self.other.last().copied().unwrap_or(0);
         self.join(&packet);
-        match (came..self.confirmed()).find(|frame| self.other[*frame] != guess) {
+        match (came..self.confirmed()).find(|frame| self.other[*frame] != predicted) {
             Some(wrong) => Outcome::Taken(self.play_from(wrong)),
             None => Outcome::Taken(0),
         }

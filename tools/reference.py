@@ -163,7 +163,7 @@ class Peer:
     def __init__(self, seat, window):
         self.seat, self.window = seat, window
         self.own, self.other, self.acked = [], [], 0
-        self.sure, self.after = 0, State()
+        self.settled, self.after = 0, State()
 
     def tick(self, held):
         if held > 15:
@@ -200,9 +200,9 @@ class Peer:
 
     def shown(self):
         """From the last state all of whose inputs have come: they stay."""
-        sure = self.confirmed()
-        self.sure, self.after = sure, self.play_on(self.after, self.sure, sure)
-        return self.play_on(self.after, sure, len(self.own))
+        confirmed = self.confirmed()
+        self.settled, self.after = confirmed, self.play_on(self.after, self.settled, confirmed)
+        return self.play_on(self.after, confirmed, len(self.own))
 
     def confirmed(self):
         return min(len(self.own), len(self.other))
@@ -326,12 +326,12 @@ class Side:
 
     def hear(self, packet):
         self.events += arrival(packet)
-        before, n, sure = self.peer.predicted(), len(self.peer.own), self.peer.confirmed()
+        before, n, confirmed = self.peer.predicted(), len(self.peer.own), self.peer.confirmed()
         if self.peer.hear(packet) is not None:
             self.refused += 1
             return
         after = self.peer.predicted()
-        right = next((i for i in range(sure, n) if before[i] != after[i]), n)
+        right = next((i for i in range(confirmed, n) if before[i] != after[i]), n)
         self.played += n - right
         self.again += n - right
 
@@ -368,10 +368,10 @@ def radio(out, seed, window, ticks, loss, twice, delay):
         raise Failed("radio: refused 5 at 0")
     sides = exchange(seed, window, ticks, loss, twice, delay)
     left, right = (side.peer for side in sides)
-    sure = min(left.confirmed(), right.confirmed())
-    games = [(left.own[:sure], left.other[:sure]), (right.other[:sure], right.own[:sure])]
+    confirmed = min(left.confirmed(), right.confirmed())
+    games = [(left.own[:confirmed], left.other[:confirmed]), (right.other[:confirmed], right.own[:confirmed])]
     same = games[0] == games[1] and plain_game(*games[0]).saved() == plain_game(*games[1]).saved()
-    out += sides[0].line("left"), sides[1].line("right"), f"same {sure}\n" if same else "different\n"
+    out += sides[0].line("left"), sides[1].line("right"), f"same {confirmed}\n" if same else "different\n"
 
 
 def number(word):

@@ -9,7 +9,7 @@
 
 #![tactic(auto)]
 
-ghost use Rattle.std.specs.Prelude.{◌≡◌, ℕ, true, ◌⊎◌, List, [], ◌++◌, length, drop, Err, IfErr, IfOk, OnOk};
+ghost use Rattle.std.specs.Prelude.{◌≡◌, ℕ, true, List, [], ◌++◌, length, drop, Err, IfErr, IfOk, MatchResult, OnOk};
 ghost use Rattle.court_game.specs.Games.{court_game};
 ghost use Rattle.game.specs.declared.seat.Seat.{Seat as At};
 ghost use Rattle.peer.specs.Peers.{Event, shows};
@@ -105,7 +105,7 @@ impl Memory {
 
     // A session for a file of events: first what does not let it begin is refused, and then a file that is no row of events.
     fn begin<'a>(&mut self, options: &Options, file: &'a [u8]) -> Result<(Peer, Row<'a>), Refused>
-        ensures refused { IfErr result (λ f. (said_begun (begin_checked options.now.window (length self.old.inputs.items) (length self.old.states.items)) (length self.old.picture.items) ≡ Err f) ⊎ ((at : ℕ) × (f ≡ NoEvent at) × FaultyAt file.now at)) }
+        ensures refused { MatchResult (said_begun (begin_checked options.now.window (length self.old.inputs.items) (length self.old.states.items)) (length self.old.picture.items)) (λ _. IfErr result (λ f. (at : ℕ) × (f ≡ NoEvent at) × FaultyAt file.now at)) (λ f. result ≡ Err f) }
         ensures begun { IfOk result (λ r. After options.now.seat options.now.window [] (memory_of r.0 self.new.inputs.items self.new.states.items) × (r.1.file.now ≡ file.now)) }
     {
         check_lent(options.window, &self.inputs, &self.states, &self.picture)?;

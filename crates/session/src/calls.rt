@@ -69,7 +69,7 @@ pub fn begin(
     Ok(rollback::events::begin::<Held>(seat, window, inputs, states)?)
 }
 
-// Carries an event out.
+// An event by the peer's call for its kind.
 #[tactic(auto, unfolding(rollback::specs::Said::said_tick))]
 fn carry_out(p: &mut Peer, inputs: &mut [u8], states: &mut [u8], event: Happening) -> Outcome
     ensures answer { result ≡ said is_input p.old.window (length inputs.old) (length states.old) (log_of p.old inputs.old) (event_of event.entry) }
