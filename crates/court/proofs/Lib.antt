@@ -1,3 +1,4 @@
+pub mod Steps
 pub mod Bits
 pub mod Signs
 pub mod Stays

@@ -1,8 +1,8 @@
 -- One frame of the game by its rules, in whole numbers. Positions are in 256ths of a dot, velocities are per frame.
 -- Assumes nothing: these are definitions.
-use Rattle.std.specs.Prelude.{ℕ, ◌+◌, ◌-◌, ◌/◌, ◌%◌, Bool, cond, if◌then◌else◌, ◌&&◌, ◌||◌, ℤ, pos, ◌+ℤ◌, ◌-ℤ◌, neg_ℤ, ◌==◌, int_div, int_le, nat_le, unsigned_abs}
+use Rattle.std.specs.Prelude.{ℕ, zero, suc, ◌+◌, ◌-◌, ◌/◌, ◌%◌, Bool, cond, if◌then◌else◌, ◌&&◌, ◌||◌, ℤ, pos, ◌+ℤ◌, ◌-ℤ◌, ◌*ℤ◌, neg_ℤ, ◌==◌, int_div, int_le, nat_le, nat_lt, max, unsigned_abs}
 use Rattle.std.specs.Int.Signed.{lt_z}
-use Rattle.std.specs.Int.{int_max, int_min}
+use Rattle.std.specs.Int.{div_ceil, int_max, int_min, int_signum}
 use Rattle.court.specs.declared.state.Ball.{Ball}
 use Rattle.court.specs.declared.state.Paddle.{Paddle}
 use Rattle.court.specs.declared.state.Score.{Score}
@@ -40,7 +40,15 @@ paddle_speed = pos 512
 
 -- the largest velocity in x and in y
 abbrev pub top_speed : ℤ
-top_speed = pos 1536
+top_speed = pos 6144
+
+-- the longest step of a ball in x and in y: less than half a paddle's reach on both sides
+abbrev pub longest_step : ℕ
+longest_step = 768
+
+-- the steps of the fastest ball's frame
+abbrev pub most_steps : ℕ
+most_steps = 8
 
 -- ---- numbers
 
@@ -93,16 +101,37 @@ paddles_moved s a b =
 abbrev pub waited : State → State
 waited s = record { ball = s.ball; left = s.left; right = s.right; score = s.score; wait = s.wait - 1 }
 
--- ---- 3. the ball moves by its velocity, and turns round at the upper and the lower wall
+-- ---- the steps of a frame, by the ball's velocity at its beginning: the fewest of which none is too long, their lengths equal,
+-- rounded down, and one more in each of the first ones until the rest is used
 
-unfoldable pub ball_moved : Ball → Ball
-ball_moved b =
-    cond (lt_z (b.y +ℤ b.dy) ball_half) (record { x = b.x +ℤ b.dx; y = ball_half; dx = b.dx; dy = size b.dy })
-    (cond (lt_z (court_height -ℤ ball_half) (b.y +ℤ b.dy)) (record { x = b.x +ℤ b.dx; y = court_height -ℤ ball_half; dx = b.dx; dy = neg_ℤ (size b.dy) })
-    (record { x = b.x +ℤ b.dx; y = b.y +ℤ b.dy; dx = b.dx; dy = b.dy }))
+unfoldable pub step_count : Ball → ℕ
+step_count b = max 1 (div_ceil (max (unsigned_abs b.dx) (unsigned_abs b.dy)) longest_step)
+
+-- the length of step i, counted from 0, of n steps that are d long together
+unfoldable pub step_length : ℕ → ℕ → ℕ → ℕ
+step_length d n i = d / n + (if nat_lt i (d % n) then 1 else 0)
+
+-- so far in the direction of a velocity; nowhere where that is 0
+unfoldable pub along : ℤ → ℕ → ℤ
+along v d = int_signum v *ℤ pos d
+
+-- ---- 3. the ball moves so far in x and in y, and turns round at the upper and the lower wall
+
+unfoldable pub ball_moved : ℤ → ℤ → Ball → Ball
+ball_moved by_x by_y b =
+    if lt_z (b.y +ℤ by_y) ball_half then record { x = b.x +ℤ by_x; y = ball_half; dx = b.dx; dy = size b.dy }
+    else (if lt_z (court_height -ℤ ball_half) (b.y +ℤ by_y)
+    then record { x = b.x +ℤ by_x; y = court_height -ℤ ball_half; dx = b.dx; dy = neg_ℤ (size b.dy) }
+    else record { x = b.x +ℤ by_x; y = b.y +ℤ by_y; dx = b.dx; dy = b.dy })
+
+-- a ball after step i of a frame at whose beginning it was `first`, as step 3 leaves it: each step goes where the ball now goes
+abbrev pub step_moved : Ball → ℕ → Ball → Ball
+step_moved first i b =
+    ball_moved (along b.dx (step_length (unsigned_abs first.dx) (step_count first) i))
+    (along b.dy (step_length (unsigned_abs first.dy) (step_count first) i)) b
 
 -- ---- 4. both paddles look at the ball as step 3 left it: one that meets it sends it away from its own end, faster, and bent by
--- where it was met; where both do, it turns round in x and lies where it was before it moved
+-- where it was met; where both do, it turns round in x and lies where it was before the step
 
 abbrev pub meets : Ball → Paddle → Bool
 meets b p =
@@ -177,9 +206,15 @@ ends_met s =
 
 -- ---- the frame
 
--- steps 3 to 5, by a rule for step 4
+-- the ball after k steps of a frame, each with the walls and the paddles, by a rule for step 4
+unfoldable pub after_steps : PaddleRule → Paddle → Paddle → Ball → ℕ → Ball
+after_steps rule l r first zero = first
+after_steps rule l r first (suc k) =
+    rule l r (after_steps rule l r first k) (step_moved first k (after_steps rule l r first k))
+
+-- the ball's steps, and then the ends, by a rule for step 4
 unfoldable pub ball_played_by : PaddleRule → State → State
-ball_played_by rule s = ends_met (with_ball (rule s.left s.right s.ball (ball_moved s.ball)) s)
+ball_played_by rule s = ends_met (with_ball (after_steps rule s.left s.right s.ball (step_count s.ball)) s)
 
 -- nine points end the game
 abbrev pub over : State → Bool
