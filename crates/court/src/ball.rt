@@ -1,5 +1,5 @@
 // Steps 3 and 4 of a frame: the ball moves by its velocity and turns round at the walls, and the paddles that meet it send it back.
-ghost use Rattle.std.specs.Prelude.{◌≡◌, ◌+◌, ◌*◌, ◌<◌, ◌≤◌, pos, neg_ℤ};
+ghost use Rattle.std.specs.Prelude.{◌≡◌, ◌+◌, ◌^◌, ◌<◌, ◌≤◌, pos, neg_ℤ};
 ghost use Rattle.court.specs.Bounds.{Within, Flying, BallIn, OnCourt, InHalf};
 ghost use Rattle.court.specs.declared.state.Side.TheVariants.{Left, Right};
 ghost use Rattle.court.specs.Frame.{top_speed, longest_step, most_steps, step_count, step_length, step_moved, along, after_steps};
@@ -65,7 +65,8 @@ fn count_steps(first: Ball) -> u32
 // The length of step i of so many that are `total` long together.
 #[tactic(auto, unfolding(crate::specs::Frame::step_length))]
 fn length_of_step(total: u32, count: u32, i: u32) -> u32
-    requires { 0 < count }
+    requires some { 0 < count }
+    requires fits { total ≤ 2 ^ 31 }
     ensures { result ≡ step_length total count i }
 {
     total / count + u32::from(i < total % count)
