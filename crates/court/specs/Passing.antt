@@ -1,6 +1,6 @@
 -- Where ball and paddles are at every step of a frame, and what it is that no ball passes through a paddle. Assumes nothing: these
 -- are definitions, and a statement that is proved in proofs/.
-use Rattle.std.specs.Prelude.{ℕ, zero, suc, ◌+◌, ◌≤◌, Bool, true, false, if◌then◌else◌, ◌||◌, List, [], ◌∷◌, ◌++◌, pos, ◌+ℤ◌, ◌-ℤ◌, ◌<ℤ◌, ◌==◌, ◌⊎◌, IsTrue, unsigned_abs}
+use Rattle.std.specs.Prelude.{◌≡◌, ℕ, zero, suc, ◌+◌, ◌≤◌, Bool, true, false, if◌then◌else◌, ◌||◌, List, [], ◌∷◌, ◌++◌, pos, ◌+ℤ◌, ◌-ℤ◌, ◌<ℤ◌, ◌==◌, ◌⊎◌, IsTrue, unsigned_abs}
 use Rattle.std.specs.Int.Signed.{lt_z}
 use Rattle.court.specs.declared.state.Ball.{Ball}
 use Rattle.court.specs.declared.state.Paddle.{Paddle}
@@ -86,6 +86,17 @@ NonePassed m n = PassesNot m m.left n n.left × PassesNot m m.right n n.right
 unfoldable pub NonePassedAlong : Moment → List Moment → Type 0
 NonePassedAlong m [] = Unit
 NonePassedAlong m (n ∷ ns) = NonePassed m n × NonePassedAlong n ns
+
+-- a moment is that of a state: ball and paddles are where that state has them
+pub record IsMomentOf (s : State) (m : Moment) : Type 0 where
+  pub ball : m.ball ≡ s.ball
+  pub left : m.left ≡ s.left
+  pub right : m.right ≡ s.right
+
+-- the last moment of a row, or the one before it where the row is empty
+unfoldable pub last_moment : Moment → List Moment → Moment
+last_moment m [] = m
+last_moment m (n ∷ ns) = last_moment n ns
 
 -- no step is longer than the longest; with a paddle's move it is shorter than a paddle's reach on both sides in x
 pub record StepsAreShort : Type 0 where
