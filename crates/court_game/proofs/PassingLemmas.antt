@@ -1,5 +1,5 @@
 -- No ball passes through a paddle, in any game. Assumes nothing.
-use Rattle.std.proofs.Common.{ℕ, List, [], ◌∷◌, ◌++◌, refl, sym, subst}
+use Rattle.std.proofs.Common.{ℕ, List, [], ◌∷◌}
 use Rattle.court.specs.declared.state.State.{State}
 use Rattle.court.specs.Frame.{advanced, start}
 use Rattle.court.specs.Bounds.{InCourt}

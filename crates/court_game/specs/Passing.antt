@@ -1,4 +1,5 @@
--- No ball passes through a paddle, in any game. Assumes nothing: these are definitions, and statements that are proved in proofs/.
+-- No ball passes through a paddle, in any game. Assumes nothing: these are definitions, and
+-- statements that are proved in proofs/.
 use Rattle.std.specs.Prelude.{ℕ, List, [], ◌∷◌, ◌++◌}
 use Rattle.court.specs.declared.state.State.{State}
 use Rattle.court.specs.Frame.{advanced, start}
@@ -16,7 +17,8 @@ moments s (a ∷ xs) (b ∷ bs) = frame_moments s a b ++ moments (advanced s a b
 abbrev pub NoBallPasses : Type 0
 NoBallPasses = (xs ys : List ℕ) → NonePassedAlong (untouched start) (moments start xs ys)
 
--- after any inputs the last moment is that of the state of the plain game: the moments are those of the game
+-- after any inputs the last moment is that of the plain game's state: the moments are of this game
 abbrev pub MomentsAreOfTheGame : Type 0
 MomentsAreOfTheGame =
-    (xs ys : List ℕ) → IsMomentOf (plays court_game start xs ys) (last_moment (untouched start) (moments start xs ys))
+    (xs ys : List ℕ) →
+    IsMomentOf (plays court_game start xs ys) (last_moment (untouched start) (moments start xs ys))

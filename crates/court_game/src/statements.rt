@@ -27,8 +27,8 @@ pub fn games_come_out()
     ensures { GamesComeOut }
 {}
 
-/// No ball passes through a paddle: in no game, whatever the inputs, does the ball's middle get from one side of a paddle to the
-/// other between two moments that follow each other, unless a paddle strikes it, or an end or a serve puts it there.
+/// No ball passes through a paddle, whatever the inputs. From each moment of a game to the next the ball's middle gets from one
+/// side of a paddle to the other, between the paddle's ends, only where that paddle meets it, or an end or a serve puts it there.
 #[tactic(
     auto,
     using(
