@@ -78,7 +78,7 @@ BetweenEnds b p = size (b.y -ℤ p.y) <ℤ paddle_half_y
 abbrev pub ChangesSide : Ball → Paddle → Ball → Paddle → Type 0
 ChangesSide b p c q = ((b.x ≤ℤ p.x) × (q.x <ℤ c.x)) ⊎ ((p.x ≤ℤ b.x) × (c.x <ℤ q.x))
 
--- where, between two moments, the ball gets to the other side of a paddle, between the paddle's ends
+-- where, from one moment to another, the ball gets to the other side of a paddle, between its ends
 -- at both, that paddle met it in the step to the second one, or an end or a serve put it there
 abbrev pub PassesNot : Moment → Paddle → Moment → Paddle → Bool → Type 0
 PassesNot m p n q met =
