@@ -1,6 +1,6 @@
 -- No ball passes through a paddle in a frame. Assumes nothing.
-use Rattle.std.specs.Prelude.{unsigned_abs, IsTrue}
-use Rattle.std.proofs.Common.{◌≡◌, ℕ, zero, suc, ◌+◌, ◌≤◌, ◌<◌, ◌⊎◌, inl, inr, Bool, true, false, ◌&&◌, ◌||◌, eqb, List, [], ◌∷◌, ◌++◌, append-nil, min, ℤ, pos, negsuc, ◌+ℤ◌, ◌-ℤ◌, neg_ℤ, ◌≤ℤ◌, refl, add-one, arith}
+use Rattle.std.specs.Prelude.{unsigned_abs}
+use Rattle.std.proofs.Common.{◌≡◌, ℕ, zero, suc, ◌+◌, ◌<◌, ◌⊎◌, inl, inr, Bool, true, false, ◌&&◌, ◌||◌, eqb, List, [], ◌∷◌, ◌++◌, append-nil, ℤ, pos, negsuc, ◌+ℤ◌, ◌-ℤ◌, neg_ℤ, ◌≤ℤ◌, refl, add-one, arith}
 use borrow.Author.Tests.{eqb-true}
 use lib.Signed.{lt_z, ◌<ℤ◌}
 use Rattle.std.proofs.lemmas.Int.{ints, clamps}
@@ -12,21 +12,13 @@ use Rattle.court.specs.declared.state.State.{State}
 use Rattle.court.specs.Frame.{size, between, stepped, bit, step_count, step_length, along, ball_moved, step_moved, after_steps, meets, quickened, struck, sent_back, both_at_once, in_goal, end_met, ends_met, with_ball, turned, paddle_moved, paddles_moved, ball_played_by, over, waited, advanced, advanced_by, start}
 use Rattle.court.specs.Bounds.{Within, PaddleIn, InHalf, InCourt}
 use Rattle.court.specs.Passing.{Moment, untouched, step_moment, step_moments, past_end, end_moments, frame_moments, BetweenEnds, ChangesSide, NonePassed, NonePassedAlong, IsMomentOf, last_moment, StepsAreShort}
-use Rattle.court.proofs.Steps.{step_length_most, steps_some, steps_enough}
-use Rattle.court.proofs.Stays.{step_short, paddles_in}
+use Rattle.court.proofs.Steps.{steps_some, step_short_x, step_short_y, along_in}
+use Rattle.court.proofs.Stays.{paddles_in}
 
 pub steps_are_short : StepsAreShort
-steps_are_short =
-    record {
-      x = λ first i. step_length_most (unsigned_abs first.dx) (step_count first) i 768 (steps_some first) (steps_enough first).0;
-      y = λ first i. step_length_most (unsigned_abs first.dy) (step_count first) i 768 (steps_some first) (steps_enough first).1;
-      both = omega (arith, ints);
-    }
+steps_are_short = record { x = step_short_x; y = step_short_y; both = omega (arith, ints) }
 
 -- ---- where a ball is safe from passing through a paddle
-
-no : IsTrue false → ⊥
-no e = cc
 
 -- a paddle in the half of its side, by its x
 abbrev InHalfX : Side → ℤ → Type 0
@@ -36,22 +28,22 @@ InHalfX Right a = Within (pos 20992) (pos 40448) a
 abbrev IsShort : ℤ → Type 0
 IsShort a = Within (neg_ℤ (pos 512)) (pos 512) a
 
--- inside of all places of the paddle on a side
+-- farther in than the paddle on a side ever comes
 abbrev pub IsInside : Side → ℤ → Type 0
 IsInside Left x = pos 19968 <ℤ x
 IsInside Right x = x <ℤ pos 20992
 
--- at the innermost place of the paddle on a side, or inside of it, and not on its way out of there
+-- as far in as the paddle on a side comes, or farther, and not on its way farther in
 abbrev pub ComesFromInside : Side → Ball → Type 0
 ComesFromInside Left b = (pos 19968 ≤ℤ b.x) × (b.dx ≤ℤ pos 0)
 ComesFromInside Right b = (b.x ≤ℤ pos 20992) × (pos 0 ≤ℤ b.dx)
 
--- at an end, and not on its way out of the court
+-- at the end on a side, and not on its way out of the court
 abbrev pub ComesFromEnd : Side → Ball → Type 0
 ComesFromEnd Left b = (b.x ≡ pos 512) × (pos 0 ≤ℤ b.dx)
 ComesFromEnd Right b = (b.x ≡ pos 40448) × (b.dx ≤ℤ pos 0)
 
--- a ball that does not pass through the paddle on a side in the next step, if it is so far from it in x or in y, or elsewhere
+-- a ball that will not pass through the paddle on a side: it is so far from it in x or in y, or where and as the others say
 pub data IsSafe (far_x far_y : ℤ) (side : Side) (b : Ball) (p : Paddle) : Type 0 where
   x_far : far_x ≤ℤ size (b.x -ℤ p.x) → IsSafe far_x far_y side b p
   y_far : far_y ≤ℤ size (b.y -ℤ p.y) → IsSafe far_x far_y side b p
@@ -59,7 +51,7 @@ pub data IsSafe (far_x far_y : ℤ) (side : Side) (b : Ball) (p : Paddle) : Type
   from_inside : ComesFromInside side b → IsSafe far_x far_y side b p
   from_end : ComesFromEnd side b → IsSafe far_x far_y side b p
 
--- far enough that no paddle meets it; and half a frame of a paddle less
+-- as far as a paddle that does not meet it, and less far by the paddle's move in a frame
 abbrev pub IsSafeBefore : Side → Ball → Paddle → Type 0
 IsSafeBefore = IsSafe (pos 1024) (pos 2560)
 
@@ -75,8 +67,8 @@ record IsStep (v by : ℤ) : Type 0 where
 safe_passes_not : (side : Side) (b : Ball) (p : Paddle) (c : Ball) (q : Paddle) → InHalfX side p.x → InHalfX side q.x →
     IsShort (q.x -ℤ p.x) → IsStep b.dx (c.x -ℤ b.x) → IsSafeStill side b p → BetweenEnds b p → pos 1024 ≤ℤ size (c.x -ℤ q.x) →
     ChangesSide b p c q → ⊥
-safe_passes_not side b p c q j k n m (x_far h) y i (inl e) = let s : Within (neg_ℤ (pos 768)) (pos 768) (c.x -ℤ b.x) = m.short in omega (arith, ints)
-safe_passes_not side b p c q j k n m (x_far h) y i (inr e) = let s : Within (neg_ℤ (pos 768)) (pos 768) (c.x -ℤ b.x) = m.short in omega (arith, ints)
+safe_passes_not side b p c q j k n m (x_far h) y i (inl e) = omega (arith, ints, m.short)
+safe_passes_not side b p c q j k n m (x_far h) y i (inr e) = omega (arith, ints, m.short)
 safe_passes_not side b p c q j k n m (y_far h) y i e = omega (arith, ints)
 safe_passes_not Left b p c q j k n m (inside h) y i (inl e) = omega (arith, ints)
 safe_passes_not Left b p c q j k n m (inside h) y i (inr e) = omega (arith, ints, m.short)
@@ -119,7 +111,8 @@ met_near b p h = met_by b p (lt_z (size (b.x -ℤ p.x)) (pos 1024)) (lt_z (size 
 
 -- ---- a step
 
--- a moment after which the ball passes through no paddle; where both paddles turned it round, it goes away from where they are
+-- a moment after which the ball passes through no paddle. Where both paddles turned it round, it goes away from where they met it,
+-- which is between all places of both
 pub data IsClear (m : Moment) : Type 0 where
   safe : IsSafeBefore Left m.ball m.left → IsSafeBefore Right m.ball m.right → IsClear m
   turned_round : IsSafeStill Left m.ball m.left → IsSafeStill Right m.ball m.right →
@@ -177,7 +170,7 @@ unmet_ball : (s : State) (k : ℕ) → meets (moved_in_step s k) s.left ≡ fals
 unfolding after_steps both_at_once
 unmet_ball s k e f = rw add-one (simp (e, f) refl)
 
--- so it lies if the right paddle alone strikes it, and so if the left one alone does
+-- where it lies once the left paddle alone met it, the right one alone, or both
 left_ball : (s : State) (k : ℕ) → meets (moved_in_step s k) s.left ≡ true → meets (moved_in_step s k) s.right ≡ false →
     after_steps both_at_once s.left s.right s.ball (k + 1) ≡ struck Left s.left (moved_in_step s k)
 unfolding after_steps both_at_once
@@ -193,22 +186,30 @@ both_ball : (s : State) (k : ℕ) → meets (moved_in_step s k) s.left ≡ true 
 unfolding after_steps both_at_once
 both_ball s k e f = rw add-one (simp (e, f) refl)
 
-along_forth : (v : ℤ) (d : ℕ) → pos 0 ≤ℤ v → pos 0 ≤ℤ along v d
+-- a length goes the way of the velocity
+forth_by : (v : ℤ) (d : ℕ) (t u : Bool) → lt_z v (pos 0) ≡ t → lt_z (pos 0) v ≡ u → pos 0 ≤ℤ v → pos 0 ≤ℤ along v d
 unfolding along
-along_forth (pos zero) d h = omega (arith, ints)
-along_forth (pos (suc n)) d h = let one : min (suc n) 1 ≡ 1 = omega arith in simp one (omega (arith, ints))
-along_forth (negsuc n) d h = omega (arith, ints)
+forth_by v d true u e f h = absurd (grind (arith, ints))
+forth_by v d false true e f h = simp (e, f) (omega (arith, ints))
+forth_by v d false false e f h = simp (e, f) (omega (arith, ints))
+
+along_forth : (v : ℤ) (d : ℕ) → pos 0 ≤ℤ v → pos 0 ≤ℤ along v d
+along_forth v d h = forth_by v d (lt_z v (pos 0)) (lt_z (pos 0) v) refl refl h
+
+back_by : (v : ℤ) (d : ℕ) (t u : Bool) → lt_z v (pos 0) ≡ t → lt_z (pos 0) v ≡ u → v ≤ℤ pos 0 → along v d ≤ℤ pos 0
+unfolding along
+back_by v d true u e f h = simp e (omega (arith, ints))
+back_by v d false true e f h = absurd (grind (arith, ints))
+back_by v d false false e f h = simp (e, f) (omega (arith, ints))
 
 along_back : (v : ℤ) (d : ℕ) → v ≤ℤ pos 0 → along v d ≤ℤ pos 0
-unfolding along
-along_back (pos zero) d h = omega (arith, ints)
-along_back (pos (suc n)) d h = absurd (omega (arith, ints))
-along_back (negsuc n) d h = omega (arith, ints)
+along_back v d h = back_by v d (lt_z v (pos 0)) (lt_z (pos 0) v) refl refl h
 
+-- how far the ball goes in a step
 step_by : (first : Ball) (i : ℕ) (v : ℤ) → IsStep v (along v (step_length (unsigned_abs first.dx) (step_count first) i))
 step_by first i v =
     let d : ℕ = step_length (unsigned_abs first.dx) (step_count first) i in
-    record { short = step_short first i v; forth = along_forth v d; back = along_back v d }
+    record { short = along_in v d 768 (step_short_x first i); forth = along_forth v d; back = along_back v d }
 
 back_again : (x y : ℤ) → (x +ℤ y) -ℤ x ≡ y
 back_again x y = omega (arith, ints)
@@ -233,7 +234,7 @@ right_unmet s k m r h f x y z =
     let moved : Ball = moved_in_step s k in
     safe_passes_not Right m.ball m.right moved s.right h.right_in r.x h.right_near.x (moves_by s k m h) (clear_right m h.clear) y (far_in_x moved s.right f z) x
 
--- a ball that the other paddle then sends here was here before
+-- a ball that one paddle sends to the other side of the other one was there before it was struck
 left_changes : (b moved : Ball) (p l r : Paddle) → InHalf Left l → InHalf Right r → meets moved r ≡ true →
     ChangesSide b p (struck Right r moved) l → ChangesSide b p moved l
 left_changes b moved p l r i j h (inl e) =
@@ -263,19 +264,22 @@ step_passes_by : (s : State) (k : ℕ) (m : Moment) → InHalf Left s.left → I
     meets (moved_in_step s k) s.left ≡ u → meets (moved_in_step s k) s.right ≡ v → NonePassed m (step_moment s k)
 step_passes_by s k m l r h true true f g = (λ x y z. rw f refl, λ x y z. rw g refl)
 step_passes_by s k m l r h true false f g =
-    let there : after_steps both_at_once s.left s.right s.ball (k + 1) ≡ struck Left s.left (moved_in_step s k) = left_ball s k f g in
-    (λ x y z. rw f refl,
-    λ x y z. absurd (right_unmet s k m r h g
-        (right_changes m.ball (moved_in_step s k) m.right s.left s.right l r f (rw there at x)) y (rw there at z)))
+    let there : after_steps both_at_once s.left s.right s.ball (k + 1) ≡ struck Left s.left (moved_in_step s k) = left_ball s k f g in (
+      λ x y z. rw f refl,
+      λ x y z. absurd (right_unmet s k m r h g
+          (right_changes m.ball (moved_in_step s k) m.right s.left s.right l r f (rw there at x)) y (rw there at z)),
+    )
 step_passes_by s k m l r h false true f g =
-    let there : after_steps both_at_once s.left s.right s.ball (k + 1) ≡ struck Right s.right (moved_in_step s k) = right_ball s k f g in
-    (λ x y z. absurd (left_unmet s k m l h f
-        (left_changes m.ball (moved_in_step s k) m.left s.left s.right l r g (rw there at x)) y (rw there at z)),
-    λ x y z. rw g refl)
+    let there : after_steps both_at_once s.left s.right s.ball (k + 1) ≡ struck Right s.right (moved_in_step s k) = right_ball s k f g in (
+      λ x y z. absurd (left_unmet s k m l h f
+          (left_changes m.ball (moved_in_step s k) m.left s.left s.right l r g (rw there at x)) y (rw there at z)),
+      λ x y z. rw g refl,
+    )
 step_passes_by s k m l r h false false f g =
-    let there : after_steps both_at_once s.left s.right s.ball (k + 1) ≡ moved_in_step s k = unmet_ball s k f g in
-    (λ x y z. absurd (left_unmet s k m l h f (rw there at x) y (rw there at z)),
-    λ x y z. absurd (right_unmet s k m r h g (rw there at x) y (rw there at z)))
+    let there : after_steps both_at_once s.left s.right s.ball (k + 1) ≡ moved_in_step s k = unmet_ball s k f g in (
+      λ x y z. absurd (left_unmet s k m l h f (rw there at x) y (rw there at z)),
+      λ x y z. absurd (right_unmet s k m r h g (rw there at x) y (rw there at z)),
+    )
 
 step_passes_not : (s : State) (k : ℕ) (m : Moment) → InHalf Left s.left → InHalf Right s.right → Leads s k m → NonePassed m (step_moment s k)
 step_passes_not s k m l r h =
@@ -335,7 +339,7 @@ both_safe m l r c x e f p q h i (safe j k) =
     (turned_safe Left m.ball c m.left l x e f p h i j, turned_safe Right m.ball c m.right r x e f q h i k)
 both_safe m l r c x e f p q h i (turned_round j k t u) =
     elim (int_sides m.ball.dx) [
-      inl g ↦ (inside (rw e (t g)), inside (omega (arith, ints, h.forth g, i.right)))
+      | inl g ↦ (inside (rw e (t g)), inside (omega (arith, ints, h.forth g, i.right)))
       | inr g ↦ (inside (omega (arith, ints, h.back g, i.left)), inside (rw e (u g)))
     ]
 
@@ -363,7 +367,7 @@ both_clear s k m l r h f g =
     let by : IsStep m.ball.dx (moved.x -ℤ m.ball.x) = moves_by s k m h in
     let i : IsBetween moved.x = met_between moved s.left s.right l r f g in
     let both : IsSafeStill Left n.ball s.left × IsSafeStill Right n.ball s.right =
-        both_safe m s.left s.right n.ball moved.x same_x same_y h.left_near h.right_near by i h.clear
+    both_safe m s.left s.right n.ball moved.x same_x same_y h.left_near h.right_near by i h.clear
     in
     turned_round both.0 both.1
     (λ d. let e : m.ball.dx ≤ℤ pos 0 = omega (arith, ints) in omega (arith, ints, by.back e, i.left))
@@ -374,12 +378,12 @@ step_clear_by : (s : State) (k : ℕ) (m : Moment) → InHalf Left s.left → In
 step_clear_by s k m l r h true true f g = both_clear s k m l r h f g
 step_clear_by s k m l r h true false f g =
     let both : IsSafeBefore Left (struck Left s.left (moved_in_step s k)) s.left × IsSafeBefore Right (struck Left s.left (moved_in_step s k)) s.right =
-        left_struck_clear s.left s.right (moved_in_step s k) l r
+    left_struck_clear s.left s.right (moved_in_step s k) l r
     in
     safe (rw (left_ball s k f g) both.0) (rw (left_ball s k f g) both.1)
 step_clear_by s k m l r h false true f g =
     let both : IsSafeBefore Left (struck Right s.right (moved_in_step s k)) s.left × IsSafeBefore Right (struck Right s.right (moved_in_step s k)) s.right =
-        right_struck_clear s.left s.right (moved_in_step s k) l r
+    right_struck_clear s.left s.right (moved_in_step s k) l r
     in
     safe (rw (right_ball s k f g) both.0) (rw (right_ball s k f g) both.1)
 step_clear_by s k m l r h false false f g =
@@ -455,6 +459,7 @@ IsSafeFromAll b = (p q : Paddle) → IsSafeBefore Left b p × IsSafeBefore Right
 middle_safe : (b : Ball) → b.x ≡ pos 20480 → IsSafeFromAll b
 middle_safe b e p q = (inside (omega (arith, ints)), inside (omega (arith, ints)))
 
+-- at an end
 turned_end_safe : (end : Side) (b : Ball) → IsSafeFromAll (turned end b)
 turned_end_safe Left b p q = (from_end (refl, omega (arith, ints)), inside (omega (arith, ints)))
 turned_end_safe Right b p q = (inside (omega (arith, ints)), from_end (refl, omega (arith, ints)))
@@ -559,29 +564,31 @@ played_by s m l r h w true e =
     let last : Moment = last_moment m (step_moments s n) in
     let put_there : Moment = record (untouched (ends_met flown)) { placed = true } in
     let passed_not : NonePassed last put_there = (λ x y z. refl, λ x y z. refl) in
-    simp e
-    (along-append m (step_moments s n) (put_there ∷ []) (steps_pass_not s m l r h n) (along_one last put_there passed_not),
-    rw (last-append m (step_moments s n) (put_there ∷ []), last_one)
-    (record {
-      of_state = record { ball = refl; left = refl; right = refl };
-      clear = safe (ends_put flown e put_there.left put_there.right).0 (ends_put flown e put_there.left put_there.right).1;
-      waiting = ends_wait flown w;
-    }))
+    simp e (
+      along-append m (step_moments s n) (put_there ∷ []) (steps_pass_not s m l r h n) (along_one last put_there passed_not),
+      rw (last-append m (step_moments s n) (put_there ∷ []), last_one)
+          (record {
+            of_state = record { ball = refl; left = refl; right = refl };
+            clear = safe (ends_put flown e put_there.left put_there.right).0 (ends_put flown e put_there.left put_there.right).1;
+            waiting = ends_wait flown w;
+          }),
+    )
 played_by s m l r h w false e =
     let n : ℕ = step_count s.ball in
     let flown : State = with_ball (before_step s n) s in
     let last : Moment = last_moment m (step_moments s n) in
-    simp e
-    (rw append-nil (steps_pass_not s m l r h n),
-    rw (append-nil, ends_rest flown e)
-    (record { of_state = steps_last s m n (steps_some s.ball); clear = (steps_lead s m l r h n).clear; waiting = inl w }))
+    simp e (
+      rw append-nil (steps_pass_not s m l r h n),
+      rw (append-nil, ends_rest flown e)
+          (record { of_state = steps_last s m n (steps_some s.ball); clear = (steps_lead s m l r h n).clear; waiting = inl w }),
+    )
 
 -- while the ball waits
-wait_passes_not : (side : Side) (b : Ball) (p q : Paddle) → InHalfX side p.x → InHalfX side q.x → b.x ≡ pos 20480 → ChangesSide b p b q → IsTrue false
-wait_passes_not Left b p q h i e (inl c) = absurd (omega (arith, ints))
-wait_passes_not Left b p q h i e (inr c) = absurd (omega (arith, ints))
-wait_passes_not Right b p q h i e (inl c) = absurd (omega (arith, ints))
-wait_passes_not Right b p q h i e (inr c) = absurd (omega (arith, ints))
+wait_passes_not : (side : Side) (b : Ball) (p q : Paddle) → InHalfX side p.x → InHalfX side q.x → b.x ≡ pos 20480 → ChangesSide b p b q → ⊥
+wait_passes_not Left b p q h i e (inl c) = omega (arith, ints)
+wait_passes_not Left b p q h i e (inr c) = omega (arith, ints)
+wait_passes_not Right b p q h i e (inl c) = omega (arith, ints)
+wait_passes_not Right b p q h i e (inr c) = omega (arith, ints)
 
 waits_by : (s : State) → WaitsInMiddle s → eqb s.wait 0 ≡ false → s.ball.x ≡ pos 20480
 waits_by s (inl h) e = absurd (grind (arith, h, e))
@@ -595,13 +602,19 @@ waited_by s a b m h i e =
     let left_in : InHalfX Left m.left.x = rw i.of_state.left h.left_in.x in
     let right_in : InHalfX Right m.right.x = rw i.of_state.right h.right_in.x in
     let middle : m.ball.x ≡ pos 20480 = rw i.of_state.ball e in
-    let passed_not : NonePassed m (untouched there) =
-        (λ x y z. absurd (no (wait_passes_not Left s.ball m.left there.left left_in k.left_in.x e (rw i.of_state.ball at x))),
-        λ x y z. absurd (no (wait_passes_not Right s.ball m.right there.right right_in k.right_in.x e (rw i.of_state.ball at x))))
-    in
-    (along_one m (untouched there) passed_not,
-    rw last_one
-    (record { of_state = record { ball = refl; left = refl; right = refl }; clear = safe (middle_safe s.ball e there.left there.right).0 (middle_safe s.ball e there.left there.right).1; waiting = inr e }))
+    let passed_not : NonePassed m (untouched there) = (
+      λ x y z. absurd (wait_passes_not Left s.ball m.left there.left left_in k.left_in.x e (rw i.of_state.ball at x)),
+      λ x y z. absurd (wait_passes_not Right s.ball m.right there.right right_in k.right_in.x e (rw i.of_state.ball at x)),
+    )
+    in (
+      along_one m (untouched there) passed_not,
+      rw last_one
+          (record {
+            of_state = record { ball = refl; left = refl; right = refl };
+            clear = safe (middle_safe s.ball e there.left there.right).0 (middle_safe s.ball e there.left there.right).1;
+            waiting = inr e;
+          }),
+    )
 
 -- a frame, by whether the game is over and whether the ball waits
 frame_by : (s : State) (a b : ℕ) (m : Moment) → InCourt s → IsBefore s m → (o w : Bool) → over s ≡ o → eqb s.wait 0 ≡ w →

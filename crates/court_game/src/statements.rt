@@ -29,14 +29,7 @@ pub fn games_come_out()
 
 /// No ball passes through a paddle, whatever the inputs. From each moment of a game to the next the ball's middle gets from one
 /// side of a paddle to the other, between the paddle's ends, only where that paddle meets it, or an end or a serve puts it there.
-#[tactic(
-    auto,
-    using(
-        court::proofs::PassingLemmas::steps_are_short,
-        crate::proofs::PassingLemmas::no_ball_passes,
-        crate::proofs::PassingLemmas::moments_are_of_the_game
-    )
-)]
+#[tactic(auto, using(court::proofs::PassingLemmas::steps_are_short, crate::proofs::PassingLemmas::no_ball_passes, crate::proofs::PassingLemmas::moments_are_of_the_game))]
 pub fn no_ball_passes()
     ensures steps { StepsAreShort }
     ensures passes { NoBallPasses }
