@@ -11,7 +11,7 @@ use Rattle.court.specs.declared.state.Side.TheVariants.{Left, Right}
 use Rattle.court.specs.declared.state.State.{State}
 use Rattle.court.specs.Frame.{size, between, stepped, bit, step_count, step_length, along, ball_moved, step_moved, after_steps, meets, quickened, struck, sent_back, both_at_once, in_goal, end_met, ends_met, with_ball, turned, paddle_moved, paddles_moved, ball_played_by, over, waited, advanced, advanced_by, start}
 use Rattle.court.specs.Bounds.{Within, PaddleIn, InHalf, InCourt}
-use Rattle.court.specs.Passing.{Moment, untouched, step_moment, step_moments, past_end, end_moments, frame_moments, BetweenEnds, ChangesSide, NonePassed, NonePassedAlong, IsMomentOf, last_moment, StepsAreShort}
+use Rattle.court.specs.Passing.{Moment, untouched, step_moment, step_moments, past_end, end_moments, frame_moments, BetweenEnds, ChangesSide, NonePassed, NonePassedAlong, IsMomentOf, last_moment, StepsAreShort, FastBallIsSentBack}
 use Rattle.court.proofs.Steps.{steps_some, step_short_x, step_short_y, along_in}
 use Rattle.court.proofs.Stays.{paddles_in}
 
@@ -642,4 +642,16 @@ before_start =
       of_state = record { ball = refl; left = refl; right = refl };
       clear = safe (middle_safe start.ball refl start.left start.right).0 (middle_safe start.ball refl start.left start.right).1;
       waiting = inr refl;
+    }
+
+-- ---- the example
+
+pub fast_ball_is_sent_back : FastBallIsSentBack
+unfolding paddle_moved step_count step_length along ball_moved after_steps both_at_once end_met ends_met ball_played_by advanced_by
+fast_ball_is_sent_back =
+    record {
+      else_passes = λ h.
+          let met : false ≡ true = h.1 (inl (omega (arith, ints), omega (arith, ints))) (omega (arith, ints)) (omega (arith, ints)) in
+          cc;
+      goes_back = refl;
     }

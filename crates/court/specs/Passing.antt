@@ -1,11 +1,11 @@
 -- Where ball and paddles are at every step of a frame, and what it is that no ball passes through
 -- a paddle. Assumes nothing: these are definitions, and statements that are proved in proofs/.
-use Rattle.std.specs.Prelude.{◌≡◌, ℕ, zero, suc, ◌+◌, ◌≤◌, Bool, true, false, if◌then◌else◌, ◌||◌, List, [], ◌∷◌, ◌++◌, ℤ, pos, ◌+ℤ◌, ◌-ℤ◌, ◌≤ℤ◌, ◌<ℤ◌, ◌==◌, ◌⊎◌, IsTrue, unsigned_abs}
+use Rattle.std.specs.Prelude.{◌≡◌, ℕ, zero, suc, ◌+◌, ◌≤◌, Bool, true, false, if◌then◌else◌, ◌||◌, List, [], ◌∷◌, ◌++◌, ℤ, pos, ◌+ℤ◌, ◌-ℤ◌, neg_ℤ, ◌≤ℤ◌, ◌<ℤ◌, ◌==◌, ◌⊎◌, IsTrue, unsigned_abs}
 use Rattle.std.specs.Int.Signed.{lt_z}
 use Rattle.court.specs.declared.state.Ball.{Ball}
 use Rattle.court.specs.declared.state.Paddle.{Paddle}
 use Rattle.court.specs.declared.state.State.{State}
-use Rattle.court.specs.Frame.{size, paddle_half_x, paddle_half_y, paddle_speed, ball_half, court_width, longest_step, meets, both_at_once, step_count, step_length, step_moved, after_steps, with_ball, ends_met, paddles_moved, over}
+use Rattle.court.specs.Frame.{size, paddle_half_x, paddle_half_y, paddle_speed, ball_half, court_width, longest_step, ball_moved, meets, both_at_once, step_count, step_length, step_moved, after_steps, with_ball, ends_met, paddles_moved, over, advanced}
 
 -- ball and paddles at one moment of a game: after a step of a frame, after the ends, or after a
 -- frame in which the ball waits; which paddles met the ball in that step, and whether an end or a
@@ -115,3 +115,36 @@ pub record StepsAreShort : Type 0 where
   pub x : (b : Ball) (i : ℕ) → step_length (unsigned_abs b.dx) (step_count b) i ≤ longest_step
   pub y : (b : Ball) (i : ℕ) → step_length (unsigned_abs b.dy) (step_count b) i ≤ longest_step
   pub both : (pos longest_step +ℤ paddle_speed) <ℤ (reach_x +ℤ reach_x)
+
+-- ---- one example
+
+-- the moment after a single step, as long as the ball's velocity, of a ball in play
+abbrev pub after_one_step : State → Moment
+after_one_step s =
+    let moved : Ball = ball_moved s.ball.dx s.ball.dy s.ball in
+    record {
+      ball = both_at_once s.left s.right s.ball moved;
+      left = s.left;
+      right = s.right;
+      by_left = meets moved s.left;
+      by_right = meets moved s.right;
+      placed = false;
+    }
+
+-- a ball at top speed, on its way to the right paddle
+abbrev pub fast_ball : State
+fast_ball =
+    record {
+      ball = record { x = pos 27000; y = pos 15360; dx = pos 6144; dy = pos 0 };
+      left = record { x = pos 2048; y = pos 15360 };
+      right = record { x = pos 30000; y = pos 15360 };
+      score = record { left = 0; right = 0 };
+      wait = 0;
+    }
+
+-- in one step it would pass through the paddle; in the steps of a frame it is sent back
+pub record FastBallIsSentBack : Type 0 where
+  pub else_passes : NonePassed (untouched fast_ball) (after_one_step fast_ball) → ⊥
+  pub goes_back :
+      (advanced fast_ball 0 0).ball
+      ≡ record { x = pos 25136; y = pos 15360; dx = neg_ℤ (pos 6144); dy = pos 0 }
