@@ -61,15 +61,31 @@ impl Ball {
         }
     }
 
+    fn meets(self, p: Paddle) -> bool {
+        (self.x - p.x).abs() < 1024 && (self.y - p.y).abs() < 2560
+    }
+
     fn struck(self, side: Side, p: Paddle) -> Ball {
-        if (self.x - p.x).abs() >= 1024 || (self.y - p.y).abs() >= 2560 {
-            return self;
-        }
         Ball {
             x: p.x + inward(side, 1024),
             y: self.y,
             dx: inward(side, (self.dx.abs() + 32).min(1536)),
             dy: (self.dy + (self.y - p.y) / 16).clamp(-1536, 1536),
+        }
+    }
+
+    /// Both paddles look at the ball as it has moved.
+    fn met(self, left: Paddle, right: Paddle, before: Ball) -> Ball {
+        if self.meets(left) {
+            if self.meets(right) {
+                Ball { dx: -self.dx, dy: self.dy, ..before }
+            } else {
+                self.struck(Side::Left, left)
+            }
+        } else if self.meets(right) {
+            self.struck(Side::Right, right)
+        } else {
+            self
         }
     }
 }
@@ -113,7 +129,7 @@ impl State {
             self.wait -= 1;
             return;
         }
-        self.ball = self.ball.moved().struck(Side::Left, self.left).struck(Side::Right, self.right);
+        self.ball = self.ball.moved().met(self.left, self.right, self.ball);
         if self.ball.x < 512 {
             self.meet_end(Side::Left);
         } else if self.ball.x > 40448 {

@@ -57,14 +57,25 @@ class State:
         p[0] = clamp(lo, hi, p[0] + 512 * ((held >> 1 & 1) - (held & 1)))
         p[1] = clamp(2048, 28672, p[1] + 512 * ((held >> 3 & 1) - (held >> 2 & 1)))
 
-    def meet(self, seat):
+    def meets(self, seat):
         px, py = self.paddles[seat]
-        if abs(self.x - px) >= 1024 or abs(self.y - py) >= 2560:
-            return
+        return abs(self.x - px) < 1024 and abs(self.y - py) < 2560
+
+    def strike(self, seat):
+        px, py = self.paddles[seat]
         way = 1 if seat == 0 else -1
         self.x = px + 1024 * way
         self.dx = way * min(1536, abs(self.dx) + 32)
         self.dy = clamp(-1536, 1536, self.dy + toward_zero(self.y - py, 16))
+
+    def meet_paddles(self, before):
+        """Both paddles look at the same ball, which lay at `before` when the frame began."""
+        met = [seat for seat in (0, 1) if self.meets(seat)]
+        if len(met) == 2:
+            self.dx = -self.dx
+            self.x, self.y = before
+        elif met:
+            self.strike(met[0])
 
     def end(self):
         if 512 <= self.x <= 40448:
@@ -89,14 +100,14 @@ class State:
         if self.wait:
             self.wait -= 1
             return
+        before = self.x, self.y
         self.x += self.dx
         self.y += self.dy
         if self.y < 512:
             self.y, self.dy = 512, abs(self.dy)
         elif self.y > 30208:
             self.y, self.dy = 30208, -abs(self.dy)
-        self.meet(0)
-        self.meet(1)
+        self.meet_paddles(before)
         self.end()
 
     def line(self, frames):

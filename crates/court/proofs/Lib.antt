@@ -2,3 +2,4 @@ pub mod Bits
 pub mod Signs
 pub mod Stays
 pub mod Ranges
+pub mod FormerRuleLemmas

@@ -8,7 +8,7 @@ use Rattle.court.specs.declared.state.Paddle.{Paddle}
 use Rattle.court.specs.declared.state.Side.{Side}
 use Rattle.court.specs.declared.state.Side.TheVariants.{Left, Right}
 use Rattle.court.specs.declared.state.State.{State}
-use Rattle.court.specs.Frame.{between, size, inward, stepped, bit, paddle_moved, paddles_moved, ball_moved, meets, quickened, sixteenth_of, struck, in_goal, serve_ball, end_at, turned, end_met, ends_met, with_ball, ball_played, over, advanced, start}
+use Rattle.court.specs.Frame.{between, size, inward, stepped, bit, paddle_moved, paddles_moved, ball_moved, meets, quickened, sixteenth_of, struck, sent_back, both_at_once, in_goal, serve_ball, end_at, turned, end_met, ends_met, with_ball, ball_played, ball_played_by, over, advanced, advanced_by, start}
 use Rattle.court.specs.Bounds.{Within, Flying, BallIn, PaddleIn, OnCourt, InCourt, InPlay}
 
 -- ---- numbers
@@ -51,20 +51,34 @@ moved_by b h false false e f =
 pub moved_in : (b : Ball) → BallIn b → Flying (ball_moved b)
 moved_in b h = moved_by b h (lt_z (b.y +ℤ b.dy) (pos 512)) (lt_z (pos 30208) (b.y +ℤ b.dy)) refl refl
 
-struck_by : (side : Side) (p : Paddle) (b : Ball) → OnCourt p → Flying b → (t : Bool) → meets b p ≡ t → Flying (struck side p b)
-unfolding struck
-struck_by side p b k h true e =
+struck_in : (side : Side) (p : Paddle) (b : Ball) → OnCourt p → Flying b → Flying (struck side p b)
+struck_in side p b k h =
     let w : Within (neg_ℤ (pos 1024)) (pos 1024) (inward side (pos 1024)) = inward_in side (pos 1024) (pos 1024) (omega (arith, ints), omega (arith, ints)) in
-    simp e (record {
+    record {
       x = (omega (arith, ints), omega (arith, ints));
       y = h.y;
       dx = inward_in side (pos 1536) (quickened b.dx) (quickened_in b.dx);
       dy = between_in (neg_ℤ (pos 1536)) (pos 1536) (b.dy +ℤ sixteenth_of (b.y -ℤ p.y)) (omega (arith, ints));
-    })
-struck_by side p b k h false e = simp e h
+    }
 
-struck_in : (side : Side) (p : Paddle) (b : Ball) → OnCourt p → Flying b → Flying (struck side p b)
-struck_in side p b k h = struck_by side p b k h (meets b p) refl
+sent_back_in : (before moved : Ball) → BallIn before → Flying moved → Flying (sent_back before moved)
+sent_back_in before moved h k =
+    record {
+      x = (omega (arith, ints, h.x), omega (arith, ints, h.x));
+      y = h.y;
+      dx = (omega (arith, ints, k.dx), omega (arith, ints, k.dx));
+      dy = k.dy;
+    }
+
+met_by : (l r : Paddle) (before moved : Ball) → OnCourt l → OnCourt r → BallIn before → Flying moved → (t u : Bool) → meets moved l ≡ t → meets moved r ≡ u → Flying (both_at_once l r before moved)
+unfolding both_at_once
+met_by l r before moved hl hr h k true true e f = simp (e, f) (sent_back_in before moved h k)
+met_by l r before moved hl hr h k true false e f = simp (e, f) (struck_in Left l moved hl k)
+met_by l r before moved hl hr h k false true e f = simp (e, f) (struck_in Right r moved hr k)
+met_by l r before moved hl hr h k false false e f = simp (e, f) k
+
+met_in : (l r : Paddle) (before moved : Ball) → OnCourt l → OnCourt r → BallIn before → Flying moved → Flying (both_at_once l r before moved)
+met_in l r before moved hl hr h k = met_by l r before moved hl hr h k (meets moved l) (meets moved r) refl refl
 
 paddle_in : (lo hi : ℤ) (p : Paddle) (input : ℕ) → lo ≤ℤ hi → PaddleIn lo hi (paddle_moved lo hi p input)
 unfolding paddle_moved
@@ -170,28 +184,27 @@ ends_in s h = ends_by s h (lt_z s.ball.x (pos 512)) (lt_z (pos 40448) s.ball.x) 
 -- ---- the frame
 
 -- the ball after both paddles
-ball_flies : (s : State) → InCourt s → Flying (struck Right s.right (struck Left s.left (ball_moved s.ball)))
+pub ball_flies : (s : State) → InCourt s → Flying (both_at_once s.left s.right s.ball (ball_moved s.ball))
 ball_flies s h =
-    struck_in Right s.right (struck Left s.left (ball_moved s.ball)) (right_on s.right h.right_in)
-    (struck_in Left s.left (ball_moved s.ball) (left_on s.left h.left_in) (moved_in s.ball h.ball_in))
+    met_in s.left s.right s.ball (ball_moved s.ball) (left_on s.left h.left_in) (right_on s.right h.right_in) h.ball_in (moved_in s.ball h.ball_in)
 
 pub in_play : (b : Ball) (s : State) → Flying b → InCourt s → s.score.left < 9 → s.score.right < 9 → InPlay (with_ball b s)
 in_play b s f h l r =
     record { ball_in = f; left_in = h.left_in; right_in = h.right_in; left_score = l; right_score = r; wait_in = h.wait_in }
 
 played_in : (s : State) → InCourt s → s.score.left < 9 → s.score.right < 9 → InCourt (ball_played s)
-unfolding ball_played
+unfolding ball_played_by
 played_in s h l r =
-    let b : Ball = struck Right s.right (struck Left s.left (ball_moved s.ball)) in
+    let b : Ball = both_at_once s.left s.right s.ball (ball_moved s.ball) in
     ends_in (with_ball b s) (in_play b s (ball_flies s h) h l r)
 
-advanced_by : (s : State) (a b : ℕ) → InCourt s → (l r w : Bool) → leb 9 s.score.left ≡ l → leb 9 s.score.right ≡ r → eqb s.wait 0 ≡ w → InCourt (advanced s a b)
-unfolding advanced
-advanced_by s a b h true r w e f g = simp e h
-advanced_by s a b h false true w e f g = simp (e, f) h
-advanced_by s a b h false false true e f g =
+advanced_cases : (s : State) (a b : ℕ) → InCourt s → (l r w : Bool) → leb 9 s.score.left ≡ l → leb 9 s.score.right ≡ r → eqb s.wait 0 ≡ w → InCourt (advanced s a b)
+unfolding advanced_by
+advanced_cases s a b h true r w e f g = simp e h
+advanced_cases s a b h false true w e f g = simp (e, f) h
+advanced_cases s a b h false false true e f g =
     simp (e, f, g) (played_in (paddles_moved s a b) (paddles_in s a b h) (leb-false 9 s.score.left e) (leb-false 9 s.score.right f))
-advanced_by s a b h false false false e f g =
+advanced_cases s a b h false false false e f g =
     let k : InCourt (paddles_moved s a b) = paddles_in s a b h in
     simp (e, f, g) (record {
       ball_in = k.ball_in;
@@ -204,11 +217,11 @@ advanced_by s a b h false false false e f g =
 
 -- once somebody has nine points nothing changes
 pub frame_rests : (s : State) (a b : ℕ) → over s ≡ true → advanced s a b ≡ s
-unfolding advanced
+unfolding advanced_by
 frame_rests s a b e = simp e
 
 pub advanced_in : (s : State) (a b : ℕ) → InCourt s → InCourt (advanced s a b)
-advanced_in s a b h = advanced_by s a b h (leb 9 s.score.left) (leb 9 s.score.right) (eqb s.wait 0) refl refl refl
+advanced_in s a b h = advanced_cases s a b h (leb 9 s.score.left) (leb 9 s.score.right) (eqb s.wait 0) refl refl refl
 
 pub start_in : InCourt start
 unfolding start

@@ -1,6 +1,6 @@
 -- One frame of the game by its rules, in whole numbers. Positions are in 256ths of a dot, velocities are per frame.
 -- Assumes nothing: these are definitions.
-use Rattle.std.specs.Prelude.{ℕ, ◌+◌, ◌-◌, ◌/◌, ◌%◌, Bool, cond, ◌&&◌, ◌||◌, ℤ, pos, ◌+ℤ◌, ◌-ℤ◌, neg_ℤ, ◌==◌, int_div, int_le, nat_le, unsigned_abs}
+use Rattle.std.specs.Prelude.{ℕ, ◌+◌, ◌-◌, ◌/◌, ◌%◌, Bool, cond, if◌then◌else◌, ◌&&◌, ◌||◌, ℤ, pos, ◌+ℤ◌, ◌-ℤ◌, neg_ℤ, ◌==◌, int_div, int_le, nat_le, unsigned_abs}
 use Rattle.std.specs.Int.Signed.{lt_z}
 use Rattle.std.specs.Int.{int_max, int_min}
 use Rattle.court.specs.declared.state.Ball.{Ball}
@@ -101,7 +101,8 @@ ball_moved b =
     (cond (lt_z (court_height -ℤ ball_half) (b.y +ℤ b.dy)) (record { x = b.x +ℤ b.dx; y = court_height -ℤ ball_half; dx = b.dx; dy = neg_ℤ (size b.dy) })
     (record { x = b.x +ℤ b.dx; y = b.y +ℤ b.dy; dx = b.dx; dy = b.dy }))
 
--- ---- 4. the left paddle, then the right: where it meets the ball it sends it away from its own end, faster, and bent by where it was met
+-- ---- 4. both paddles look at the ball as step 3 left it: one that meets it sends it away from its own end, faster, and bent by
+-- where it was met; where both do, it turns round in x and lies where it was before it moved
 
 abbrev pub meets : Ball → Paddle → Bool
 meets b p =
@@ -113,16 +114,28 @@ quickened dx = int_min (size dx +ℤ pos 32) top_speed
 abbrev pub bent_by : ℤ → ℤ → ℤ
 bent_by dy d = between (neg_ℤ top_speed) top_speed (dy +ℤ sixteenth_of d)
 
-unfoldable pub struck : Side → Paddle → Ball → Ball
+-- a ball that the paddle on one side sends back
+abbrev pub struck : Side → Paddle → Ball → Ball
 struck side p b =
-    cond (meets b p)
-    (record {
+    record {
       x = p.x +ℤ inward side (paddle_half_x +ℤ ball_half);
       y = b.y;
       dx = inward side (quickened b.dx);
       dy = bent_by b.dy (b.y -ℤ p.y);
-    })
-    b
+    }
+
+-- a ball between both paddles, from where it was before it moved and as step 3 left it
+abbrev pub sent_back : Ball → Ball → Ball
+sent_back before moved = record { x = before.x; y = before.y; dx = neg_ℤ moved.dx; dy = moved.dy }
+
+-- what step 4 makes of a ball, by the left paddle and the right one, the ball before it moved and as step 3 left it
+abbrev pub PaddleRule : Type 0
+PaddleRule = Paddle → Paddle → Ball → Ball → Ball
+
+unfoldable pub both_at_once : PaddleRule
+both_at_once l r before moved =
+    if meets moved l then (if meets moved r then sent_back before moved else struck Left l moved)
+    else (if meets moved r then struck Right r moved else moved)
 
 -- ---- 5. past an end: in the goal it is a point for the other seat and a serve, else the ball turns round there
 
@@ -164,17 +177,24 @@ ends_met s =
 
 -- ---- the frame
 
--- steps 3 to 5
-unfoldable pub ball_played : State → State
-ball_played s = ends_met (with_ball (struck Right s.right (struck Left s.left (ball_moved s.ball))) s)
+-- steps 3 to 5, by a rule for step 4
+unfoldable pub ball_played_by : PaddleRule → State → State
+ball_played_by rule s = ends_met (with_ball (rule s.left s.right s.ball (ball_moved s.ball)) s)
 
 -- nine points end the game
 abbrev pub over : State → Bool
 over s = nat_le 9 s.score.left || nat_le 9 s.score.right
 
-unfoldable pub advanced : State → ℕ → ℕ → State
-advanced s a b =
-    cond (over s) s (cond (s.wait == 0) (ball_played (paddles_moved s a b)) (waited (paddles_moved s a b)))
+unfoldable pub advanced_by : PaddleRule → State → ℕ → ℕ → State
+advanced_by rule s a b =
+    if over s then s
+    else (if s.wait == 0 then ball_played_by rule (paddles_moved s a b) else waited (paddles_moved s a b))
+
+abbrev pub ball_played : State → State
+ball_played = ball_played_by both_at_once
+
+abbrev pub advanced : State → ℕ → ℕ → State
+advanced = advanced_by both_at_once
 
 unfoldable pub start : State
 start =

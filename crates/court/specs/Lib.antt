@@ -1,3 +1,4 @@
 pub mod Frame
 pub mod Keys
 pub mod Bounds
+pub mod FormerRule

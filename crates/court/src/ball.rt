@@ -1,7 +1,7 @@
-// Steps 3 and 4 of a frame: the ball moves by its velocity and turns round at the walls, and the paddles send it back.
+// Steps 3 and 4 of a frame: the ball moves by its velocity and turns round at the walls, and the paddles that meet it send it back.
 ghost use Rattle.std.specs.Prelude.{◌≡◌, pos, neg_ℤ};
 ghost use Rattle.court.specs.Bounds.{Within, Flying, BallIn, OnCourt};
-ghost use Rattle.court.specs.Frame.{sixteenth_of, inward, quickened, bent_by, meets, ball_moved, struck};
+ghost use Rattle.court.specs.Frame.{sixteenth_of, inward, quickened, bent_by, meets, ball_moved, struck, sent_back, both_at_once};
 
 use crate::span::{BALL_Y, SPEEDS};
 use crate::state::{Ball, Paddle, Side};
@@ -81,31 +81,49 @@ fn touches(b: Ball, p: Paddle) -> bool
     b.x.abs_diff(p.x) < REACH_X && b.y.abs_diff(p.y) < REACH_Y
 }
 
-// A ball in the middle of a frame, which may be past an end.
-#[derive(Clone, Copy)]
-pub(crate) struct FlyingBall {
-    pub(crate) ball: Ball,
-    ghost flies: { Flying ball },
+// The ball that the paddle on one side sends back.
+fn strike(side: Side, p: Paddle, b: Ball) -> Ball
+    requires paddle { OnCourt p }
+    requires ball { Flying b }
+    ensures { result ≡ struck side p b }
+{
+    Ball {
+        x: p.x + into_court(side, PADDLE_HALF_X + BALL_HALF),
+        y: b.y,
+        dx: into_court(side, quicken(b.dx)),
+        dy: bend(b.dy, b.y - p.y),
+    }
 }
 
-impl FlyingBall {
-    // A paddle sends the ball away from its own end, where it meets it.
-    #[tactic(auto, unfolding(crate::specs::Frame::struck))]
-    pub(crate) fn strike(self, side: Side, p: Paddle) -> FlyingBall
-        requires { OnCourt p }
-        ensures { result.ball ≡ struck side p self.ball }
-    {
-        let b = self.ball;
-        if !touches(b, p) {
-            return self;
+// The ball between two paddles that both meet it.
+fn send_back(before: Ball, moved: Ball) -> Ball
+    requires { Flying moved }
+    ensures { result ≡ sent_back before moved }
+{
+    Ball {
+        dx: -moved.dx,
+        dy: moved.dy,
+        ..before
+    }
+}
+
+// Step 4. Both paddles look at the ball as step 3 left it; `before` is the ball before it moved.
+#[tactic(auto, unfolding(crate::specs::Frame::both_at_once))]
+pub(crate) fn meet_paddles(left: Paddle, right: Paddle, before: Ball, moved: Ball) -> Ball
+    requires left_on_court { OnCourt left }
+    requires right_on_court { OnCourt right }
+    requires flies { Flying moved }
+    ensures { result ≡ both_at_once left right before moved }
+{
+    if touches(moved, left) {
+        if touches(moved, right) {
+            send_back(before, moved)
+        } else {
+            strike(Side::Left, left, moved)
         }
-        FlyingBall {
-            ball: Ball {
-                x: p.x + into_court(side, PADDLE_HALF_X + BALL_HALF),
-                y: b.y,
-                dx: into_court(side, quicken(b.dx)),
-                dy: bend(b.dy, b.y - p.y),
-            },
-        }
+    } else if touches(moved, right) {
+        strike(Side::Right, right, moved)
+    } else {
+        moved
     }
 }

@@ -4,11 +4,11 @@ ghost use Rattle.court.specs.Bounds.{InCourt};
 ghost use Rattle.court.specs.Frame.{over, waited, ball_played, advanced};
 
 use crate::LAST_POINT;
-use crate::ball::{FlyingBall, move_ball};
+use crate::ball::{meet_paddles, move_ball};
 use crate::bounded::Court;
 use crate::ends::Rally;
 use crate::input::Input;
-use crate::state::{Side, State};
+use crate::state::State;
 
 impl Court {
     fn is_over(self) -> bool
@@ -24,15 +24,10 @@ impl Court {
         ensures { result.state ≡ ball_played self.state }
     {
         let s = self.state;
-        let moved = FlyingBall {
-            ball: move_ball(s.ball),
-        };
-        let struck = moved
-            .strike(Side::Left, s.left)
-            .strike(Side::Right, s.right);
+        let moved = move_ball(s.ball);
         let rally = Rally {
             state: State {
-                ball: struck.ball,
+                ball: meet_paddles(s.left, s.right, s.ball, moved),
                 ..s
             },
         };

@@ -13,6 +13,7 @@ pub mod input;
 mod paddle;
 mod span;
 pub mod state;
+pub mod statements;
 
 pub use bounded::Court;
 pub use input::Input;

@@ -8,18 +8,31 @@ fn ball((x, y, dx, dy): (i32, i32, i32, i32)) -> Ball {
     Ball { x, y, dx, dy }
 }
 
-// The ball after a frame in which nobody moves, with the paddles at the start.
-fn check_ball(rt: &impl Abort, from: (i32, i32, i32, i32), to: (i32, i32, i32, i32)) {
+// The ball after a frame in which nobody moves.
+fn check_between(
+    rt: &impl Abort,
+    left: Paddle,
+    right: Paddle,
+    from: (i32, i32, i32, i32),
+    to: (i32, i32, i32, i32),
+) {
     let state = State {
         ball: ball(from),
-        left: Paddle { x: 2048, y: 15360 },
-        right: Paddle { x: 38912, y: 15360 },
+        left,
+        right,
         score: Score { left: 0, right: 0 },
         wait: 0,
     };
     let court = Court::clamped(state);
     assert_eq!(rt; court.state, state, "in the court");
     assert_eq!(rt; court.frame(Input(0), Input(0)).state.ball, ball(to));
+}
+
+// The same with the paddles at the start.
+fn check_ball(rt: &impl Abort, from: (i32, i32, i32, i32), to: (i32, i32, i32, i32)) {
+    let left = Paddle { x: 2048, y: 15360 };
+    let right = Paddle { x: 38912, y: 15360 };
+    check_between(rt, left, right, from, to);
 }
 
 #[test]
@@ -39,6 +52,39 @@ fn reach_of_paddles(rt: HostRuntime) {
     check_ball(&rt, (3583, 12801, -512, 0), (3072, 12801, 544, -159));
     check_ball(&rt, (37376, 15360, 512, 0), (37888, 15360, 512, 0));
     check_ball(&rt, (37377, 15360, 512, 0), (37888, 15360, -544, 0));
+}
+
+// Where both paddles meet the ball, it turns round in x and lies where it was, also beside a wall; where the left one alone does,
+// the right one does not look at the ball that was struck.
+#[test]
+fn both_paddles(rt: HostRuntime) {
+    let left = Paddle { x: 19968, y: 11264 };
+    let right = Paddle { x: 20992, y: 10240 };
+    check_between(
+        &rt,
+        left,
+        right,
+        (20004, 11274, 515, 1419),
+        (20004, 11274, -515, 1419),
+    );
+    let left = Paddle { x: 19968, y: 2048 };
+    let right = Paddle { x: 20992, y: 2048 };
+    check_between(
+        &rt,
+        left,
+        right,
+        (20900, 700, -512, -300),
+        (20900, 700, 512, 300),
+    );
+    let left = Paddle { x: 19968, y: 19968 };
+    let right = Paddle { x: 21504, y: 22528 };
+    check_between(
+        &rt,
+        left,
+        right,
+        (20361, 21335, -677, -173),
+        (20992, 21162, 709, -99),
+    );
 }
 
 // It changes the ball's velocity in y by a sixteenth of the distance, rounded toward 0, and makes it faster, up to a limit.
