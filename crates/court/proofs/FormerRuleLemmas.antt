@@ -1,11 +1,11 @@
 -- Where a frame by the former step 4 is a frame today. Assumes nothing.
-use Rattle.std.proofs.Common.{◌≡◌, Bool, true, false, ◌&&◌, ◌||◌, refl, ap}
+use Rattle.std.proofs.Common.{ℕ, ◌∙◌, zero, suc, ◌<◌, ◌≤◌, arith, ◌≡◌, Bool, true, false, ◌&&◌, ◌||◌, refl, ap}
 use Rattle.court.specs.declared.state.Ball.{Ball}
 use Rattle.court.specs.declared.state.Paddle.{Paddle}
 use Rattle.court.specs.declared.state.Side.TheVariants.{Left}
 use Rattle.court.specs.declared.state.State.{State}
-use Rattle.court.specs.Frame.{meets, struck, ball_moved, paddles_moved, with_ball, ends_met, both_at_once, ball_played_by, advanced_by}
-use Rattle.court.specs.FormerRule.{both_met, one_after_the_other, SameUnlessBothMet}
+use Rattle.court.specs.Frame.{meets, struck, step_count, step_moved, after_steps, paddles_moved, with_ball, ends_met, both_at_once, ball_played_by, advanced_by}
+use Rattle.court.specs.FormerRule.{both_met, both_met_at, one_after_the_other, SameUnlessBothMet}
 
 -- by which paddle meets the moved ball, and whether the right one meets what the left one made of it
 rule_by : (l r : Paddle) (before moved : Ball) (t u v : Bool) → meets moved l ≡ t → meets moved r ≡ u → meets (struck Left l moved) r ≡ v →
@@ -21,9 +21,19 @@ same_rule : (l r : Paddle) (before moved : Ball) → both_met l r moved ≡ fals
 same_rule l r before moved h =
     rule_by l r before moved (meets moved l) (meets moved r) (meets (struck Left l moved) r) refl refl refl h
 
-same_ball : (s : State) → both_met s.left s.right (ball_moved s.ball) ≡ false → ball_played_by both_at_once s ≡ ball_played_by one_after_the_other s
+-- the ball after as many steps as the two rules were the same in
+same_steps : (l r : Paddle) (first : Ball) (n : ℕ) → ((k : ℕ) → k < n → both_met l r (step_moved first k (after_steps both_at_once l r first k)) ≡ false) →
+    (k : ℕ) → k ≤ n → after_steps both_at_once l r first k ≡ after_steps one_after_the_other l r first k
+unfolding after_steps
+same_steps l r first n h zero e = refl
+same_steps l r first n h (suc k) e =
+    same_rule l r (after_steps both_at_once l r first k) (step_moved first k (after_steps both_at_once l r first k)) (h k (omega arith))
+    ∙ ap (λ b. one_after_the_other l r b (step_moved first k b)) (same_steps l r first n h k (omega arith))
+
+same_ball : (s : State) → ((k : ℕ) → k < step_count s.ball → both_met_at s k ≡ false) → ball_played_by both_at_once s ≡ ball_played_by one_after_the_other s
 unfolding ball_played_by
-same_ball s h = ap (λ b. ends_met (with_ball b s)) (same_rule s.left s.right s.ball (ball_moved s.ball) h)
+same_ball s h =
+    ap (λ b. ends_met (with_ball b s)) (same_steps s.left s.right s.ball (step_count s.ball) h (step_count s.ball) (omega arith))
 
 pub same_unless_both_met : SameUnlessBothMet
 unfolding advanced_by

@@ -1,5 +1,5 @@
 -- A frame keeps a state in the court. Assumes nothing.
-use Rattle.std.proofs.Common.{◌≡◌, ℕ, ◌+◌, ◌%◌, ◌<◌, Bool, true, false, cond, eqb, leb, ℤ, pos, ◌+ℤ◌, ◌-ℤ◌, neg_ℤ, ◌≤ℤ◌, refl, arith}
+use Rattle.std.proofs.Common.{◌≡◌, ℕ, zero, suc, ◌+◌, ◌≤◌, ◌%◌, ◌<◌, Bool, true, false, cond, eqb, leb, ℤ, pos, ◌+ℤ◌, ◌-ℤ◌, neg_ℤ, ◌≤ℤ◌, refl, arith}
 use lib.Signed.{lt_z}
 use Rattle.std.proofs.lemmas.Int.{ints}
 use Rattle.std.proofs.lemmas.Bool.{leb-false}
@@ -8,8 +8,9 @@ use Rattle.court.specs.declared.state.Paddle.{Paddle}
 use Rattle.court.specs.declared.state.Side.{Side}
 use Rattle.court.specs.declared.state.Side.TheVariants.{Left, Right}
 use Rattle.court.specs.declared.state.State.{State}
-use Rattle.court.specs.Frame.{between, size, inward, stepped, bit, paddle_moved, paddles_moved, ball_moved, meets, quickened, sixteenth_of, struck, sent_back, both_at_once, in_goal, serve_ball, end_at, turned, end_met, ends_met, with_ball, ball_played, ball_played_by, over, advanced, advanced_by, start}
-use Rattle.court.specs.Bounds.{Within, Flying, BallIn, PaddleIn, OnCourt, InCourt, InPlay}
+use Rattle.court.specs.Frame.{between, size, inward, stepped, bit, paddle_moved, paddles_moved, ball_moved, meets, quickened, bent_by, sixteenth_of, step_count, step_moved, after_steps, struck, sent_back, both_at_once, in_goal, serve_ball, end_at, turned, end_met, ends_met, with_ball, ball_played, ball_played_by, over, advanced, advanced_by, start}
+use Rattle.court.specs.Bounds.{Within, Flying, BallIn, PaddleIn, OnCourt, InHalf, InCourt, InPlay}
+use Rattle.court.proofs.Steps.{step_short_x, steps_few, along_in}
 
 -- ---- numbers
 
@@ -23,62 +24,83 @@ pub inward_in : (side : Side) (m a : ℤ) → Within (pos 0) m a → Within (neg
 inward_in Left m a h = (omega (arith, ints), omega (arith, ints))
 inward_in Right m a h = (omega (arith, ints), omega (arith, ints))
 
-quickened_in : (a : ℤ) → Within (pos 0) (pos 1536) (quickened a)
+quickened_in : (a : ℤ) → Within (pos 0) (pos 6144) (quickened a)
 quickened_in a = grind (arith, ints)
 
 -- ---- the steps of a frame
 
 -- by the walls' tests
-moved_by : (b : Ball) → BallIn b → (t u : Bool) → lt_z (b.y +ℤ b.dy) (pos 512) ≡ t → lt_z (pos 30208) (b.y +ℤ b.dy) ≡ u → Flying (ball_moved b)
+moved_by : (k : ℕ) (b : Ball) (by_x by_y : ℤ) → Flying k b → Within (neg_ℤ (pos 768)) (pos 768) by_x → (t u : Bool) → lt_z (b.y +ℤ by_y) (pos 512) ≡ t → lt_z (pos 30208) (b.y +ℤ by_y) ≡ u → Flying (k + 1) (ball_moved by_x by_y b)
 unfolding ball_moved
-moved_by b h true u e f =
+moved_by k b by_x by_y h i true u e f =
     simp e (record {
       x = (omega (arith, ints), omega (arith, ints));
       y = (omega (arith, ints), omega (arith, ints));
       dx = h.dx;
       dy = (omega (arith, ints), omega (arith, ints));
     })
-moved_by b h false true e f =
+moved_by k b by_x by_y h i false true e f =
     simp (e, f) (record {
       x = (omega (arith, ints), omega (arith, ints));
       y = (omega (arith, ints), omega (arith, ints));
       dx = h.dx;
       dy = (omega (arith, ints), omega (arith, ints));
     })
-moved_by b h false false e f =
+moved_by k b by_x by_y h i false false e f =
     simp (e, f) (record { x = (omega (arith, ints), omega (arith, ints)); y = (grind (arith, ints), grind (arith, ints)); dx = h.dx; dy = h.dy })
 
-pub moved_in : (b : Ball) → BallIn b → Flying (ball_moved b)
-moved_in b h = moved_by b h (lt_z (b.y +ℤ b.dy) (pos 512)) (lt_z (pos 30208) (b.y +ℤ b.dy)) refl refl
+pub moved_in : (k : ℕ) (b : Ball) (by_x by_y : ℤ) → Flying k b → Within (neg_ℤ (pos 768)) (pos 768) by_x → Flying (k + 1) (ball_moved by_x by_y b)
+moved_in k b by_x by_y h i = moved_by k b by_x by_y h i (lt_z (b.y +ℤ by_y) (pos 512)) (lt_z (pos 30208) (b.y +ℤ by_y)) refl refl
 
-struck_in : (side : Side) (p : Paddle) (b : Ball) → OnCourt p → Flying b → Flying (struck side p b)
-struck_in side p b k h =
-    let w : Within (neg_ℤ (pos 1024)) (pos 1024) (inward side (pos 1024)) = inward_in side (pos 1024) (pos 1024) (omega (arith, ints), omega (arith, ints)) in
+-- a ball flies on, and one in the court has not flown yet
+pub flies_on : (k m : ℕ) (b : Ball) → k ≤ m → Flying k b → Flying m b
+flies_on k m b e h = record { x = (omega (arith, ints), omega (arith, ints)); y = h.y; dx = h.dx; dy = h.dy }
+
+pub flies_not : (b : Ball) → BallIn b → Flying 0 b
+flies_not b h = record { x = (omega (arith, ints), omega (arith, ints)); y = h.y; dx = h.dx; dy = h.dy }
+
+struck_dx : (side : Side) (b : Ball) → Within (neg_ℤ (pos 6144)) (pos 6144) (inward side (quickened b.dx))
+struck_dx side b = inward_in side (pos 6144) (quickened b.dx) (quickened_in b.dx)
+
+struck_dy : (b : Ball) (p : Paddle) → Within (neg_ℤ (pos 6144)) (pos 6144) (bent_by b.dy (b.y -ℤ p.y))
+struck_dy b p = between_in (neg_ℤ (pos 6144)) (pos 6144) (b.dy +ℤ sixteenth_of (b.y -ℤ p.y)) (omega (arith, ints))
+
+struck_in : (k : ℕ) (side : Side) (p : Paddle) (b : Ball) → InHalf side p → Flying k b → Flying k (struck side p b)
+struck_in k Left p b i h =
+    record { x = (omega (arith, ints, i.x), omega (arith, ints, i.x)); y = h.y; dx = struck_dx Left b; dy = struck_dy b p }
+struck_in k Right p b i h =
+    record { x = (omega (arith, ints, i.x), omega (arith, ints, i.x)); y = h.y; dx = struck_dx Right b; dy = struck_dy b p }
+
+sent_back_in : (k m : ℕ) (before moved : Ball) → k ≤ m → Flying k before → Flying m moved → Flying m (sent_back before moved)
+sent_back_in k m before moved e h i =
     record {
-      x = (omega (arith, ints), omega (arith, ints));
+      x = (flies_on k m before e h).x;
       y = h.y;
-      dx = inward_in side (pos 1536) (quickened b.dx) (quickened_in b.dx);
-      dy = between_in (neg_ℤ (pos 1536)) (pos 1536) (b.dy +ℤ sixteenth_of (b.y -ℤ p.y)) (omega (arith, ints));
+      dx = (omega (arith, ints, i.dx), omega (arith, ints, i.dx));
+      dy = i.dy;
     }
 
-sent_back_in : (before moved : Ball) → BallIn before → Flying moved → Flying (sent_back before moved)
-sent_back_in before moved h k =
-    record {
-      x = (omega (arith, ints, h.x), omega (arith, ints, h.x));
-      y = h.y;
-      dx = (omega (arith, ints, k.dx), omega (arith, ints, k.dx));
-      dy = k.dy;
-    }
-
-met_by : (l r : Paddle) (before moved : Ball) → OnCourt l → OnCourt r → BallIn before → Flying moved → (t u : Bool) → meets moved l ≡ t → meets moved r ≡ u → Flying (both_at_once l r before moved)
+met_by : (k : ℕ) (l r : Paddle) (before moved : Ball) → InHalf Left l → InHalf Right r → Flying k before → Flying (k + 1) moved → (t u : Bool) → meets moved l ≡ t → meets moved r ≡ u → Flying (k + 1) (both_at_once l r before moved)
 unfolding both_at_once
-met_by l r before moved hl hr h k true true e f = simp (e, f) (sent_back_in before moved h k)
-met_by l r before moved hl hr h k true false e f = simp (e, f) (struck_in Left l moved hl k)
-met_by l r before moved hl hr h k false true e f = simp (e, f) (struck_in Right r moved hr k)
-met_by l r before moved hl hr h k false false e f = simp (e, f) k
+met_by k l r before moved hl hr h i true true e f = simp (e, f) (sent_back_in k (k + 1) before moved (omega arith) h i)
+met_by k l r before moved hl hr h i true false e f = simp (e, f) (struck_in (k + 1) Left l moved hl i)
+met_by k l r before moved hl hr h i false true e f = simp (e, f) (struck_in (k + 1) Right r moved hr i)
+met_by k l r before moved hl hr h i false false e f = simp (e, f) i
 
-met_in : (l r : Paddle) (before moved : Ball) → OnCourt l → OnCourt r → BallIn before → Flying moved → Flying (both_at_once l r before moved)
-met_in l r before moved hl hr h k = met_by l r before moved hl hr h k (meets moved l) (meets moved r) refl refl
+pub met_in : (k : ℕ) (l r : Paddle) (before moved : Ball) → InHalf Left l → InHalf Right r → Flying k before → Flying (k + 1) moved → Flying (k + 1) (both_at_once l r before moved)
+met_in k l r before moved hl hr h i = met_by k l r before moved hl hr h i (meets moved l) (meets moved r) refl refl
+
+-- the ball after k steps of a frame
+
+-- one step more
+step_in : (l r : Paddle) (first b : Ball) → InHalf Left l → InHalf Right r → (k : ℕ) → Flying k b → Flying (suc k) (both_at_once l r b (step_moved first k b))
+step_in l r first b hl hr k i =
+    flies_on (k + 1) (suc k) _ (omega arith) (met_in k l r b (step_moved first k b) hl hr i (moved_in k b _ _ i (along_in b.dx _ 768 (step_short_x first k))))
+
+pub steps_in : (l r : Paddle) (first : Ball) → InHalf Left l → InHalf Right r → BallIn first → (k : ℕ) → Flying k (after_steps both_at_once l r first k)
+unfolding after_steps
+steps_in l r first hl hr h zero = flies_not first h
+steps_in l r first hl hr h (suc k) = step_in l r first (after_steps both_at_once l r first k) hl hr k (steps_in l r first hl hr h k)
 
 paddle_in : (lo hi : ℤ) (p : Paddle) (input : ℕ) → lo ≤ℤ hi → PaddleIn lo hi (paddle_moved lo hi p input)
 unfolding paddle_moved
@@ -107,11 +129,11 @@ paddles_in s a b h =
 
 -- ---- the ends
 
-served_up : (even : Bool) → Within (neg_ℤ (pos 1536)) (pos 1536) (cond even (pos 256) (neg_ℤ (pos 256)))
+served_up : (even : Bool) → Within (neg_ℤ (pos 6144)) (pos 6144) (cond even (pos 256) (neg_ℤ (pos 256)))
 served_up true = (omega (arith, ints), omega (arith, ints))
 served_up false = (omega (arith, ints), omega (arith, ints))
 
-wide : {a : ℤ} → Within (neg_ℤ (pos 512)) (pos 512) a → Within (neg_ℤ (pos 1536)) (pos 1536) a
+wide : {a : ℤ} → Within (neg_ℤ (pos 512)) (pos 512) a → Within (neg_ℤ (pos 6144)) (pos 6144) a
 wide h = (omega (arith, ints), omega (arith, ints))
 
 served_in : (out : Side) (l r : ℕ) → BallIn (serve_ball out (record { left = l; right = r }))
@@ -127,9 +149,9 @@ end_within : (end : Side) → Within (pos 512) (pos 40448) (end_at end)
 end_within Left = (omega (arith, ints), omega (arith, ints))
 end_within Right = (omega (arith, ints), omega (arith, ints))
 
-turned_in : (end : Side) (b : Ball) → Flying b → BallIn (turned end b)
+turned_in : (end : Side) (b : Ball) → Flying 8 b → BallIn (turned end b)
 turned_in end b h =
-    record { x = end_within end; y = h.y; dx = inward_in end (pos 1536) (size b.dx) (size_in (pos 1536) b.dx h.dx); dy = h.dy }
+    record { x = end_within end; y = h.y; dx = inward_in end (pos 6144) (size b.dx) (size_in (pos 6144) b.dx h.dx); dy = h.dy }
 
 end_by : (end : Side) (s : State) → InPlay s → (g : Bool) → in_goal s.ball.y ≡ g → InCourt (end_met end s)
 unfolding end_met
@@ -183,20 +205,21 @@ ends_in s h = ends_by s h (lt_z s.ball.x (pos 512)) (lt_z (pos 40448) s.ball.x) 
 
 -- ---- the frame
 
--- the ball after both paddles
-pub ball_flies : (s : State) → InCourt s → Flying (both_at_once s.left s.right s.ball (ball_moved s.ball))
-ball_flies s h =
-    met_in s.left s.right s.ball (ball_moved s.ball) (left_on s.left h.left_in) (right_on s.right h.right_in) h.ball_in (moved_in s.ball h.ball_in)
+-- the ball after all steps
+pub flown_in : (s : State) → InCourt s → Flying 8 (after_steps both_at_once s.left s.right s.ball (step_count s.ball))
+flown_in s h =
+    let few : step_count s.ball ≤ 8 = steps_few s.ball (omega (arith, ints, h.ball_in.dx)) (omega (arith, ints, h.ball_in.dy)) in
+    flies_on (step_count s.ball) 8 _ few (steps_in s.left s.right s.ball h.left_in h.right_in h.ball_in (step_count s.ball))
 
-pub in_play : (b : Ball) (s : State) → Flying b → InCourt s → s.score.left < 9 → s.score.right < 9 → InPlay (with_ball b s)
+pub in_play : (b : Ball) (s : State) → Flying 8 b → InCourt s → s.score.left < 9 → s.score.right < 9 → InPlay (with_ball b s)
 in_play b s f h l r =
     record { ball_in = f; left_in = h.left_in; right_in = h.right_in; left_score = l; right_score = r; wait_in = h.wait_in }
 
 played_in : (s : State) → InCourt s → s.score.left < 9 → s.score.right < 9 → InCourt (ball_played s)
 unfolding ball_played_by
 played_in s h l r =
-    let b : Ball = both_at_once s.left s.right s.ball (ball_moved s.ball) in
-    ends_in (with_ball b s) (in_play b s (ball_flies s h) h l r)
+    let b : Ball = after_steps both_at_once s.left s.right s.ball (step_count s.ball) in
+    ends_in (with_ball b s) (in_play b s (flown_in s h) h l r)
 
 advanced_cases : (s : State) (a b : ℕ) → InCourt s → (l r w : Bool) → leb 9 s.score.left ≡ l → leb 9 s.score.right ≡ r → eqb s.wait 0 ≡ w → InCourt (advanced s a b)
 unfolding advanced_by

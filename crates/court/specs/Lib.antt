@@ -2,3 +2,4 @@ pub mod Frame
 pub mod Keys
 pub mod Bounds
 pub mod FormerRule
+pub mod Passing

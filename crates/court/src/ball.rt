@@ -1,6 +1,9 @@
-// Steps 3 and 4 of a frame: the ball moves by its velocity and turns round at the walls, and the paddles that meet it send it back.
-ghost use Rattle.std.specs.Prelude.{◌≡◌, pos, neg_ℤ};
-ghost use Rattle.court.specs.Bounds.{Within, Flying, BallIn, OnCourt};
+// Steps 3 and 4 of a frame: the ball moves by its velocity and turns round at the walls, and the
+// paddles that meet it send it back.
+ghost use Rattle.std.specs.Prelude.{◌≡◌, ◌+◌, ◌^◌, ◌<◌, ◌≤◌, pos, neg_ℤ};
+ghost use Rattle.court.specs.Bounds.{Within, Flying, BallIn, OnCourt, InHalf};
+ghost use Rattle.court.specs.declared.state.Side.TheVariants.{Left, Right};
+ghost use Rattle.court.specs.Frame.{top_speed, longest_step, most_steps, step_count, step_length, step_moved, along, after_steps};
 ghost use Rattle.court.specs.Frame.{sixteenth_of, inward, quickened, bent_by, meets, ball_moved, struck, sent_back, both_at_once};
 
 use crate::span::{BALL_Y, SPEEDS};
@@ -9,15 +12,23 @@ use crate::{BALL_HALF, PADDLE_HALF_X, PADDLE_HALF_Y, TOP_SPEED};
 
 const GAIN: i32 = 32;
 
-// How near the middles of a ball and a paddle are where they touch. In a constant stands no call, so a cast.
+// How far a ball goes in one step, in x and in y, at most: less than a paddle's reach, so that it
+// passes through none.
+const LONGEST_STEP: u32 = 768;
+
+// As many steps as the fastest ball takes in a frame.
+const MOST_STEPS: u32 = TOP_SPEED as u32 / LONGEST_STEP;
+
+// How near the middles of a ball and a paddle are where they touch. In a constant stands no call,
+// so a cast.
 const REACH_X: u32 = (PADDLE_HALF_X + BALL_HALF) as u32;
 
 const REACH_Y: u32 = (PADDLE_HALF_Y + BALL_HALF) as u32;
 
 pub(crate) fn into_court(from: Side, by: i32) -> i32
-    requires { Within (pos 0) (pos 1536) by }
+    requires { Within (pos 0) top_speed by }
     ensures value { result ≡ inward from by }
-    ensures small { Within (neg_ℤ (pos 1536)) (pos 1536) result }
+    ensures small { Within (neg_ℤ top_speed) top_speed result }
 {
     match from {
         Side::Left => by,
@@ -25,13 +36,55 @@ pub(crate) fn into_court(from: Side, by: i32) -> i32
     }
 }
 
-pub(crate) fn move_ball(b: Ball) -> Ball
-    requires { BallIn b }
-    ensures { result ≡ ball_moved b }
+// So far in the direction of a velocity.
+#[tactic(auto, unfolding(crate::specs::Frame::along))]
+fn directed(velocity: i32, length: u32) -> i32
+    requires { length ≤ longest_step }
+    ensures value { result ≡ along velocity length }
+    ensures short { Within (neg_ℤ (pos longest_step)) (pos longest_step) result }
 {
-    let y = b.y + b.dy;
+    let length = length as i32;
+    if velocity < 0 {
+        -length
+    } else if velocity > 0 {
+        length
+    } else {
+        0
+    }
+}
+
+// How many steps a ball's frame has.
+fn count_steps(first: Ball) -> u32
+    ensures { result ≡ step_count first }
+{
+    first
+        .dx
+        .unsigned_abs()
+        .max(first.dy.unsigned_abs())
+        .div_ceil(LONGEST_STEP)
+        .max(1)
+}
+
+// The length of step i of so many that are `total` long together.
+#[tactic(auto, unfolding(crate::specs::Frame::step_length))]
+fn length_of_step(total: u32, count: u32, i: u32) -> u32
+    requires some { 0 < count }
+    requires fits { total ≤ 2 ^ 31 }
+    ensures { result ≡ step_length total count i }
+{
+    total / count + u32::from(i < total % count)
+}
+
+// Step 3: the ball goes so far in x and in y, and turns round at the walls.
+fn move_ball(b: Ball, by_x: i32, by_y: i32) -> Ball
+    requires ball { Flying most_steps b }
+    requires x { Within (neg_ℤ (pos longest_step)) (pos longest_step) by_x }
+    requires y { Within (neg_ℤ (pos longest_step)) (pos longest_step) by_y }
+    ensures { result ≡ ball_moved by_x by_y b }
+{
+    let y = b.y + by_y;
     let moved = Ball {
-        x: b.x + b.dx,
+        x: b.x + by_x,
         y,
         ..b
     };
@@ -60,17 +113,17 @@ fn sixteenth(d: i32) -> i32
 }
 
 fn quicken(dx: i32) -> i32
-    requires { Within (neg_ℤ (pos 1536)) (pos 1536) dx }
+    requires { Within (neg_ℤ top_speed) top_speed dx }
     ensures value { result ≡ quickened dx }
-    ensures small { Within (pos 0) (pos 1536) result }
+    ensures small { Within (pos 0) top_speed result }
 {
     (dx.abs() + GAIN).min(TOP_SPEED)
 }
 
 fn bend(dy: i32, d: i32) -> i32
-    requires { Within (neg_ℤ (pos 1536)) (pos 1536) dy }
+    requires { Within (neg_ℤ top_speed) top_speed dy }
     ensures value { result ≡ bent_by dy d }
-    ensures small { Within (neg_ℤ (pos 1536)) (pos 1536) result }
+    ensures small { Within (neg_ℤ top_speed) top_speed result }
 {
     SPEEDS.nearest(dy + sixteenth(d))
 }
@@ -84,7 +137,7 @@ fn touches(b: Ball, p: Paddle) -> bool
 // The ball that the paddle on one side sends back.
 fn strike(side: Side, p: Paddle, b: Ball) -> Ball
     requires paddle { OnCourt p }
-    requires ball { Flying b }
+    requires ball { Flying most_steps b }
     ensures { result ≡ struck side p b }
 {
     Ball {
@@ -97,7 +150,7 @@ fn strike(side: Side, p: Paddle, b: Ball) -> Ball
 
 // The ball between two paddles that both meet it.
 fn send_back(before: Ball, moved: Ball) -> Ball
-    requires { Flying moved }
+    requires { Flying most_steps moved }
     ensures { result ≡ sent_back before moved }
 {
     Ball {
@@ -107,12 +160,12 @@ fn send_back(before: Ball, moved: Ball) -> Ball
     }
 }
 
-// Step 4. Both paddles look at the ball as step 3 left it; `before` is the ball before it moved.
+// Step 4. Both paddles look at the ball as step 3 left it; `before` is the ball before the step.
 #[tactic(auto, unfolding(crate::specs::Frame::both_at_once))]
-pub(crate) fn meet_paddles(left: Paddle, right: Paddle, before: Ball, moved: Ball) -> Ball
+fn meet_paddles(left: Paddle, right: Paddle, before: Ball, moved: Ball) -> Ball
     requires left_on_court { OnCourt left }
     requires right_on_court { OnCourt right }
-    requires flies { Flying moved }
+    requires flies { Flying most_steps moved }
     ensures { result ≡ both_at_once left right before moved }
 {
     if touches(moved, left) {
@@ -126,4 +179,75 @@ pub(crate) fn meet_paddles(left: Paddle, right: Paddle, before: Ball, moved: Bal
     } else {
         moved
     }
+}
+
+// A ball after some steps of a frame. It may be past an end, by as much as these go.
+#[derive(Clone, Copy)]
+pub(crate) struct FlyingBall {
+    pub(crate) ball: Ball,
+    steps: u32,
+    ghost flies: { Flying steps ball },
+    ghost few: { steps ≤ most_steps },
+}
+
+impl FlyingBall {
+    // One step more, with the walls and the paddles.
+    fn step(self, by_x: i32, by_y: i32, left: Paddle, right: Paddle) -> FlyingBall
+        requires few { self.steps < most_steps }
+        requires x { Within (neg_ℤ (pos longest_step)) (pos longest_step) by_x }
+        requires y { Within (neg_ℤ (pos longest_step)) (pos longest_step) by_y }
+        requires left_half { InHalf Left left }
+        requires right_half { InHalf Right right }
+        ensures ball { result.ball
+            ≡ both_at_once left right self.ball (ball_moved by_x by_y self.ball) }
+        ensures steps { result.steps ≡ self.steps + 1 }
+    {
+        let moved = move_ball(self.ball, by_x, by_y);
+        FlyingBall {
+            ball: meet_paddles(left, right, self.ball, moved),
+            steps: self.steps + 1,
+        }
+    }
+
+    // Step i, counted from 0, of a frame of `count` steps, at whose beginning the ball was `first`.
+    fn step_of(self, first: Ball, count: u32, i: u32, left: Paddle, right: Paddle) -> FlyingBall
+        requires few { self.steps < most_steps }
+        requires counted { count ≡ step_count first }
+        requires left_half { InHalf Left left }
+        requires right_half { InHalf Right right }
+        ensures ball { result.ball
+            ≡ both_at_once left right self.ball (step_moved first i self.ball) }
+        ensures steps { result.steps ≡ self.steps + 1 }
+    {
+        let by_x = length_of_step(first.dx.unsigned_abs(), count, i);
+        let by_y = length_of_step(first.dy.unsigned_abs(), count, i);
+        self.step(
+            directed(self.ball.dx, by_x),
+            directed(self.ball.dy, by_y),
+            left,
+            right,
+        )
+    }
+}
+
+// The ball after all steps of a frame.
+pub(crate) fn fly(first: Ball, left: Paddle, right: Paddle) -> FlyingBall
+    requires ball { BallIn first }
+    requires left_half { InHalf Left left }
+    requires right_half { InHalf Right right }
+    ensures { result.ball ≡ after_steps both_at_once left right first (step_count first) }
+{
+    let mut flying = FlyingBall {
+        ball: first,
+        steps: 0,
+    };
+    let count = count_steps(first);
+    // One step is as long as the velocity: no division.
+    if count == 1 {
+        return flying.step(first.dx, first.dy, left, right);
+    }
+    for i in 0..count {
+        flying = flying.step_of(first, count, i, left, right);
+    }
+    flying
 }

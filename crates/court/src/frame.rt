@@ -4,7 +4,7 @@ ghost use Rattle.court.specs.Bounds.{InCourt};
 ghost use Rattle.court.specs.Frame.{over, waited, ball_played, advanced};
 
 use crate::LAST_POINT;
-use crate::ball::{meet_paddles, move_ball};
+use crate::ball::fly;
 use crate::bounded::Court;
 use crate::ends::Rally;
 use crate::input::Input;
@@ -24,10 +24,10 @@ impl Court {
         ensures { result.state ≡ ball_played self.state }
     {
         let s = self.state;
-        let moved = move_ball(s.ball);
+        let flown = fly(s.ball, s.left, s.right);
         let rally = Rally {
             state: State {
-                ball: meet_paddles(s.left, s.right, s.ball, moved),
+                ball: flown.ball,
                 ..s
             },
         };
@@ -36,7 +36,8 @@ impl Court {
         }
     }
 
-    // The paddles go; then the wait falls by one, or where there is none the ball is played. A game that is over stays as it is.
+    // The paddles go; then the wait falls by one, or where there is none the ball is played. A game
+    // that is over stays as it is.
     pub fn frame(self, left: Input, right: Input) -> Court
         ensures value { result.state ≡ advanced self.state left.0 right.0 }
         ensures inside { InCourt result.state }

@@ -40,7 +40,7 @@ pub(crate) const SERVE_X: i32 = 512;
 pub(crate) const SERVE_Y: i32 = 256;
 
 // The most that a velocity is, in x as in y.
-pub(crate) const TOP_SPEED: i32 = 1536;
+pub(crate) const TOP_SPEED: i32 = 6144;
 
 // The points that end a game.
 pub(crate) const LAST_POINT: u8 = 9;

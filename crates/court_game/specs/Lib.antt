@@ -1,3 +1,4 @@
 pub mod Games
+pub mod Passing
 pub mod Snapshots
 pub mod Saved

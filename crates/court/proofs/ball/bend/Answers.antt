@@ -11,4 +11,4 @@ returns-clause-value c =
     let fs : SFits w32 (c.args.dy +ℤ c.sixteenth.result) = search rules in
     let fr : SFits w32 c.nearest.result = search rules in
     let e : c.sixteenth.result ≡ sixteenth_of c.args.d = simp to_z-of_z at c.sixteenth.ensures.value in
-    simp to_z-of_z ((simp to_z-of_z at c.nearest.ensures.value) ∙ ap (λ t. between (neg_ℤ (pos 1536)) (pos 1536) (c.args.dy +ℤ t)) e)
+    simp to_z-of_z ((simp to_z-of_z at c.nearest.ensures.value) ∙ ap (λ t. between (neg_ℤ (pos 6144)) (pos 6144) (c.args.dy +ℤ t)) e)

@@ -13,12 +13,14 @@ returns-then-y c =
     let fy : SFits w32 c.args.b.y = search rules in
     let fdx : SFits w32 c.args.b.dx = search rules in
     let fdy : SFits w32 c.args.b.dy = search rules in
-    let fsx : SFits w32 (c.args.b.x +ℤ c.args.b.dx) = search rules in
-    let fsy : SFits w32 (c.args.b.y +ℤ c.args.b.dy) = search rules in
+    let fmx : SFits w32 c.args.by_x = search rules in
+    let fmy : SFits w32 c.args.by_y = search rules in
+    let fsx : SFits w32 (c.args.b.x +ℤ c.args.by_x) = search rules in
+    let fsy : SFits w32 (c.args.b.y +ℤ c.args.by_y) = search rules in
     let fr : SFits w32 c.abs.result = search rules in
-    let t : lt_z (c.args.b.y +ℤ c.args.b.dy) (pos 512) ≡ true = simp to_z-of_z at c.if-y.true in
+    let t : lt_z (c.args.b.y +ℤ c.args.by_y) (pos 512) ≡ true = simp to_z-of_z at c.if-y.true in
     let e : c.abs.result ≡ size c.args.b.dy = simp to_z-of_z at c.abs.ensures.value in
-    let mk : ℤ → Ball = λ d. record { x = c.args.b.x +ℤ c.args.b.dx; y = pos 512; dx = c.args.b.dx; dy = d } in
+    let mk : ℤ → Ball = λ d. record { x = c.args.b.x +ℤ c.args.by_x; y = pos 512; dx = c.args.b.dx; dy = d } in
     simp (to_z-of_z, t) (ap mk e)
 
 pub returns-then-y-2 : goal.returns-then-y-2
@@ -28,15 +30,17 @@ returns-then-y-2 c =
     let fy : SFits w32 c.args.b.y = search rules in
     let fdx : SFits w32 c.args.b.dx = search rules in
     let fdy : SFits w32 c.args.b.dy = search rules in
-    let fsx : SFits w32 (c.args.b.x +ℤ c.args.b.dx) = search rules in
-    let fsy : SFits w32 (c.args.b.y +ℤ c.args.b.dy) = search rules in
+    let fmx : SFits w32 c.args.by_x = search rules in
+    let fmy : SFits w32 c.args.by_y = search rules in
+    let fsx : SFits w32 (c.args.b.x +ℤ c.args.by_x) = search rules in
+    let fsy : SFits w32 (c.args.b.y +ℤ c.args.by_y) = search rules in
     let fr : SFits w32 c.abs-then-y-2.result = search rules in
     let fn : SFits w32 (pos 0 -ℤ c.abs-then-y-2.result) = search rules in
-    let t : lt_z (c.args.b.y +ℤ c.args.b.dy) (pos 512) ≡ false = simp to_z-of_z at c.if-y.false in
-    let u : lt_z (pos 30208) (c.args.b.y +ℤ c.args.b.dy) ≡ true = simp to_z-of_z at c.if-y-2.true in
+    let t : lt_z (c.args.b.y +ℤ c.args.by_y) (pos 512) ≡ false = simp to_z-of_z at c.if-y.false in
+    let u : lt_z (pos 30208) (c.args.b.y +ℤ c.args.by_y) ≡ true = simp to_z-of_z at c.if-y-2.true in
     let e : c.abs-then-y-2.result ≡ size c.args.b.dy = simp to_z-of_z at c.abs-then-y-2.ensures.value in
     let n : pos 0 -ℤ c.abs-then-y-2.result ≡ neg_ℤ (size c.args.b.dy) = sub_neg c.abs-then-y-2.result ∙ ap neg_ℤ e in
-    let mk : ℤ → Ball = λ d. record { x = c.args.b.x +ℤ c.args.b.dx; y = pos 30208; dx = c.args.b.dx; dy = d } in
+    let mk : ℤ → Ball = λ d. record { x = c.args.b.x +ℤ c.args.by_x; y = pos 30208; dx = c.args.b.dx; dy = d } in
     simp (to_z-of_z, t, u) (ap mk n)
 
 pub returns-else-y-2 : goal.returns-else-y-2
@@ -46,8 +50,10 @@ returns-else-y-2 c =
     let fy : SFits w32 c.args.b.y = search rules in
     let fdx : SFits w32 c.args.b.dx = search rules in
     let fdy : SFits w32 c.args.b.dy = search rules in
-    let fsx : SFits w32 (c.args.b.x +ℤ c.args.b.dx) = search rules in
-    let fsy : SFits w32 (c.args.b.y +ℤ c.args.b.dy) = search rules in
-    let t : lt_z (c.args.b.y +ℤ c.args.b.dy) (pos 512) ≡ false = simp to_z-of_z at c.if-y.false in
-    let u : lt_z (pos 30208) (c.args.b.y +ℤ c.args.b.dy) ≡ false = simp to_z-of_z at c.if-y-2.false in
+    let fmx : SFits w32 c.args.by_x = search rules in
+    let fmy : SFits w32 c.args.by_y = search rules in
+    let fsx : SFits w32 (c.args.b.x +ℤ c.args.by_x) = search rules in
+    let fsy : SFits w32 (c.args.b.y +ℤ c.args.by_y) = search rules in
+    let t : lt_z (c.args.b.y +ℤ c.args.by_y) (pos 512) ≡ false = simp to_z-of_z at c.if-y.false in
+    let u : lt_z (pos 30208) (c.args.b.y +ℤ c.args.by_y) ≡ false = simp to_z-of_z at c.if-y-2.false in
     simp (to_z-of_z, t, u)

@@ -16,6 +16,6 @@ returns-clause-value c =
     let f4 : SFits w32 c.nearest-4.result = search rules in
     let e1 : c.nearest.result ≡ between (pos 512) (pos 40448) b.x = simp to_z-of_z at c.nearest.ensures.value in
     let e2 : c.nearest-2.result ≡ between (pos 512) (pos 30208) b.y = simp to_z-of_z at c.nearest-2.ensures.value in
-    let e3 : c.nearest-3.result ≡ between (neg_ℤ (pos 1536)) (pos 1536) b.dx = simp to_z-of_z at c.nearest-3.ensures.value in
-    let e4 : c.nearest-4.result ≡ between (neg_ℤ (pos 1536)) (pos 1536) b.dy = simp to_z-of_z at c.nearest-4.ensures.value in
+    let e3 : c.nearest-3.result ≡ between (neg_ℤ (pos 6144)) (pos 6144) b.dx = simp to_z-of_z at c.nearest-3.ensures.value in
+    let e4 : c.nearest-4.result ≡ between (neg_ℤ (pos 6144)) (pos 6144) b.dy = simp to_z-of_z at c.nearest-4.ensures.value in
     simp to_z-of_z cc
