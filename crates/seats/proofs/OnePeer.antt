@@ -14,7 +14,7 @@ use Rattle.seats.specs.Peers.{Log, Event, tick, arrival, new_log, row, own, coun
 use Rattle.seats.specs.Plain.{plays}
 use Rattle.seats.specs.Promise.{StaysSure, Guessed, OwnBack, SendsWritten}
 use Rattle.seats.proofs.Least.{least_le, least_grows, others_grows, others_met, at_set}
-use Rattle.seats.proofs.Packets.{packet_known, said_seat}
+use Rattle.seats.proofs.Packets.{packet_known, many_read}
 use Rattle.seats.proofs.Plays.{plays_same, rows_same}
 
 -- how many inputs a log has of a seat
@@ -227,10 +227,9 @@ guessed S g fits window log xs =
     )
 
 pub own_back : OwnBack
-unfolding with_packet
-own_back fits window log l many e =
-    by_arrival fits window log (packet_bytes (length log.rows) l) (λ to. to ≡ log) refl
-    (λ k read apart. absurd (apart (said_seat (length log.rows) log.seat (length (own log)) l k many read ∙ e)))
+own_back fits window log xs many e =
+    by_arrival fits window log xs (λ to. to ≡ log) refl
+    (λ p read apart. absurd (apart ((many_read (length log.rows) log.seat (length (own log)) xs p many read).1.same ∙ e)))
 
 pub none_known : (seats j : ℕ) → ◌≡◌ {A = ℕ} (get_or (replicate seats 0) j 0) 0
 none_known seats j =

@@ -10,7 +10,7 @@ use Rattle.seats.specs.Packets.{Packet, ReadError, PacketRead, ReadWritten, IsPr
 
 -- ---- bytes, by the number of seats
 
-bytes_many : (seats : ℕ) (p : Packet) → 2 < seats → packet_bytes seats p ≡ 72 ∷ (p.seat ∷ drop 1 (message_bytes p.message))
+pub bytes_many : (seats : ℕ) (p : Packet) → 2 < seats → packet_bytes seats p ≡ 72 ∷ (p.seat ∷ drop 1 (message_bytes p.message))
 unfolding packet_bytes
 bytes_many seats p h = cond-true (ltb 2 seats) _ _ (lt-ltb 2 seats h)
 
@@ -87,7 +87,7 @@ seat_read at own seat xs p = by (reading (ack_limit at own seat (ack_in xs)) xs)
     by (Err g) e f = let no : ⊥ = cc in absurd no
 
 -- with more than two seats the seat is the byte behind the "H"
-many_read : (seats at own : ℕ) (xs : List ℕ) (p : Packet) → 2 < seats → packet_in seats at own xs ≡ Ok p → (names_no_seat seats xs ≡ false) × FromSeat at own (get_or xs 1 0) (take 1 xs ++ drop 2 xs) p
+pub many_read : (seats at own : ℕ) (xs : List ℕ) (p : Packet) → 2 < seats → packet_in seats at own xs ≡ Ok p → (names_no_seat seats xs ≡ false) × FromSeat at own (get_or xs 1 0) (take 1 xs ++ drop 2 xs) p
 many_read seats at own xs p h e =
     let P : Result Packet ReadError → Type 0 = λ r. r ≡ Ok p → (names_no_seat seats xs ≡ false) × FromSeat at own (get_or xs 1 0) (take 1 xs ++ drop 2 xs) p in
     cond_both (names_no_seat seats xs) (Err ReadError.no_seat) (packet_from_seat at own (get_or xs 1 0) (take 1 xs ++ drop 2 xs)) P
@@ -95,7 +95,7 @@ many_read seats at own xs p h e =
     (λ here f. (here, seat_read at own (get_or xs 1 0) (take 1 xs ++ drop 2 xs) p f))
     (sym (in_many seats at own xs h) ∙ e)
 
-two_read : (seats at own : ℕ) (xs : List ℕ) (p : Packet) → seats ≤ 2 → packet_in seats at own xs ≡ Ok p → FromSeat at own (1 - at) xs p
+pub two_read : (seats at own : ℕ) (xs : List ℕ) (p : Packet) → seats ≤ 2 → packet_in seats at own xs ≡ Ok p → FromSeat at own (1 - at) xs p
 two_read seats at own xs p h e = seat_read at own (1 - at) xs p (sym (in_two seats at own xs h) ∙ e)
 
 -- a packet of another seat acknowledges no more than was made
@@ -106,11 +106,6 @@ packet_known seats at own xs p e apart =
       | inl h ↦ omega (arith, (many_read seats at own xs p h e).1.facts.known, limit)
       | inr h ↦ omega (arith, (two_read seats at own xs p h e).facts.known, limit)
     ]
-
--- where packets say whose they are
-pub said_seat : (seats at own : ℕ) (p q : Packet) → 2 < seats → packet_in seats at own (packet_bytes seats p) ≡ Ok q → q.seat ≡ p.seat
-said_seat seats at own p q h e =
-    (many_read seats at own (72 ∷ (p.seat ∷ drop 1 (message_bytes p.message))) q h (sym (ap (packet_in seats at own) (bytes_many seats p h)) ∙ e)).1.same
 
 -- ---- what is read is what was written
 

@@ -10,6 +10,7 @@ use Rattle.seats.specs.Packets.{Packet, packet_bytes}
 use Rattle.seats.specs.Network.{Network, Turn, tick, send, deliver, with_peer, packet_from, with_delivery, with_turn, with_turns, new_network}
 use Rattle.seats.specs.Peers.{Log, Event, arrival, new_log, own, fewest, with_event, with_events}
 use Rattle.seats.specs.Promise.{PeersRun, NotFar}
+use Rattle.seats.proofs.Packets.{bytes_many}
 use Rattle.seats.proofs.OnePeer.{Grows, run_grows, near_run, own_back}
 
 -- ---- the peer at a seat where one has another log
@@ -45,7 +46,7 @@ module _ (fits : ℕ → Bool) (window : ℕ) where
             elim (cases_lt 2 seats) [
               | inl h ↦
                   let back : came ≡ log =
-                  ap (λ n. with_event fits window log (arrival (packet_bytes n l))) (sym many) ∙ own_back fits window log l (omega (arith, many)) e in
+                  own_back fits window log (packet_bytes seats l) (omega (arith, many)) (ap (λ xs. get_or xs 1 0) (bytes_many seats l h) ∙ e) in
                   subst P (sym back) p
               | inr h ↦
                   let t = and_from (not (ltb 2 seats)) (eqb l.seat log.seat) (not_from_false (ltb 2 seats) (le-ltb 2 seats h)) (eq-eqb l.seat log.seat e) in

@@ -1,6 +1,6 @@
 -- What holds of all peers, whatever becomes of the packets between them.
 -- Assumes nothing: these are definitions, and statements that are proved in proofs/.
-use Rattle.std.specs.Prelude.{◌≡◌, ℕ, ◌+◌, ◌<◌, ◌≤◌, ◌≢◌, Bool, List, ◌∷◌, ◌++◌, length, take, Ok}
+use Rattle.std.specs.Prelude.{◌≡◌, ℕ, ◌+◌, ◌<◌, ◌≤◌, ◌≢◌, Bool, List, ◌∷◌, ◌++◌, length, take, Ok, slice_index}
 use Rattle.std.specs.List.{AllByRecursion}
 use Rattle.network.specs.Promise.{Begins, Narrow}
 use Rattle.seats.specs.Network.{Network, Seat, Turn, send, deliver, packet_from, network}
@@ -110,12 +110,12 @@ Guessed S =
     (AsPredicted old new → Same × (shown_state g new ≡ shown_state g old))
     × (Same → AsPredicted old new)
 
--- with more than two seats a packet of its own seat changes nothing
+-- with more than two seats bytes of its own seat change nothing, whether they are taken or refused
 abbrev pub OwnBack : Type 0
 OwnBack =
-    (fits : ℕ → Bool) (window : ℕ) (log : Log) (p : Packet) →
-    2 < length log.rows → p.seat ≡ log.seat →
-    with_event fits window log (Event.arrival (packet_bytes (length log.rows) p)) ≡ log
+    (fits : ℕ → Bool) (window : ℕ) (log : Log) (xs : List ℕ) →
+    2 < length log.rows → slice_index xs 1 ≡ log.seat →
+    with_event fits window log (Event.arrival xs) ≡ log
 
 -- what a peer sends is one of the packets that a peer of a network may write
 abbrev pub SendsWritten : Type 0
