@@ -8,7 +8,7 @@ use Rattle.network.proofs.Beginnings.{begins_refl, begins_more, begins_trans, be
 use Rattle.network.proofs.OnePeer.{joined_grows}
 use Rattle.packet.specs.Wire.{Message}
 use Rattle.peer.specs.Peers.{joined}
-use Rattle.seats.specs.Packets.{Packet, ReadError, packet_bytes, packet_in}
+use Rattle.seats.specs.Packets.{Packet, ReadError, packet_in}
 use Rattle.seats.specs.Network.{packet_from}
 use Rattle.seats.specs.Peers.{Log, Event, tick, arrival, new_log, row, own, counts, frames, others, least, fewest, acked_by_all, may_play, with_row, with_message, with_packet, with_event, with_events, predicted_input, predicted_inputs, confirmed}
 use Rattle.seats.specs.Plain.{plays}

@@ -4,7 +4,7 @@ use Rattle.std.specs.Prelude.{◌≡◌, ℕ, ◌+◌, ◌<◌, ◌≤◌, ◌�
 use Rattle.std.specs.List.{AllByRecursion}
 use Rattle.network.specs.Promise.{Begins, Narrow}
 use Rattle.seats.specs.Network.{Network, Seat, Turn, send, deliver, packet_from, network}
-use Rattle.seats.specs.Packets.{Packet, most_packet_inputs, packet_bytes, packet_in}
+use Rattle.seats.specs.Packets.{most_packet_inputs, packet_bytes, packet_in}
 use Rattle.seats.specs.Peers.{Log, Event, new_log, row, own, frames, fewest, acked_by_all, largest_window, with_event, with_events, predicted_inputs, AsPredicted, shown_state, confirmed, confirmed_state, sent_packet}
 use Rattle.seats.specs.Plain.{Game}
 

@@ -93,7 +93,7 @@ pub apart : (seat : TwoSeat) → seat_number (facing seat) ≢ seat_number seat
 apart Left e = omega arith
 apart Right e = omega arith
 
-written_same : (seat : TwoSeat) (l : TwoLog) (from k : ℕ) → ◌≡◌ {A = Packet} (packet_from (log_of seat l) from k) (record { seat = seat_number seat; message = two_written l from k })
+pub written_same : (seat : TwoSeat) (l : TwoLog) (from k : ℕ) → ◌≡◌ {A = Packet} (packet_from (log_of seat l) from k) (record { seat = seat_number seat; message = two_written l from k })
 unfolding packet_from two_written least
 written_same Left l from k = refl
 written_same Right l from k = refl

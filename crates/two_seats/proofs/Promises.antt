@@ -1,6 +1,6 @@
 -- What is promised of two, from what holds of all seats. Assumes nothing.
 use native.Mathlib.Bridge.{le_prop}
-use Rattle.std.proofs.Common.{◌≡◌, ℕ, zero, suc, ◌-◌, ◌<◌, ◌≤◌, Bool, true, false, eqb, List, [], ◌∷◌, ◌++◌, length, take, Ok, Err, Result, sym, refl, ap, ap₂, ◌∙◌, subst, inl, inr, append_assoc, arith}
+use Rattle.std.proofs.Common.{◌≡◌, ℕ, zero, suc, ◌<◌, ◌≤◌, Bool, true, false, eqb, List, [], ◌∷◌, ◌++◌, map, length, get_or, take, Ok, sym, refl, ap, ap₂, ◌∙◌, subst, inl, inr, append_assoc, arith}
 use Rattle.std.specs.Prelude.{◌≢◌}
 use Rattle.std.specs.List.{AllByRecursion}
 use Rattle.std.proofs.lemmas.Bool.{cond_both, cond-true, cond-false, eqb-true, ne_eqb, eq-eqb, cases_Bool}
@@ -8,21 +8,21 @@ use Rattle.game.specs.Seats.{facing}
 use Rattle.game.specs.declared.seat.Seat.{Seat as TwoSeat}
 use Rattle.game.specs.declared.seat.Seat.TheVariants.{Left, Right}
 use Rattle.network.specs.Network.{Network as TwoNetwork, Turn as TwoTurn, peer_at, packets_to, network as two_network}
-use Rattle.network.specs.Promise.{Begins, SameInputs, OneGame, NotFar, NoneRefused, BothSure, BothSureAt, Came as TwoCame}
+use Rattle.network.specs.Promise.{Begins, SameInputs, OneGame, NotFar, NoneRefused, PeersRun, StaysSure, SendsWritten, BothSure, BothSureAt, Came as TwoCame}
 use Rattle.packet.specs.Wire.{Message, message_bytes, reading}
-use Rattle.packet.specs.declared.fault.Fault.{Fault}
-use Rattle.peer.specs.Peers.{Log as TwoLog, confirmed as two_confirmed}
-use Rattle.seats.specs.Packets.{Packet, packet_bytes, packet_of, packet_in}
+use Rattle.peer.specs.Peers.{Log as TwoLog, Event as TwoEvent, new_log as two_new_log, run as two_run, confirmed as two_confirmed}
+use Rattle.seats.specs.Packets.{Packet, packet_bytes, packet_in}
 use Rattle.seats.specs.Network.{Network, Seat, Turn, send, deliver, new_network, packet_from, with_turn, with_turns, network}
-use Rattle.seats.specs.Peers.{Log, row, own, fewest, acked_by_all, least, confirmed, confirmed_state}
-use Rattle.seats.specs.Promise.{Came, AllSureAt}
+use Rattle.seats.specs.Peers.{Log, Event, new_log, with_events, sent_packet, row, own, fewest, acked_by_all, least, confirmed, confirmed_state}
+use Rattle.seats.specs.Promise.{Came, AllSureAt, Stays}
 use Rattle.seats.proofs.Arrivals.{all_sure}
 use Rattle.seats.proofs.Networks.{same_inputs, one_game, none_refused}
 use Rattle.seats.proofs.Packets.{two_read}
-use Rattle.seats.proofs.Turns.{not_far, packets_turns}
-use Rattle.two_seats.specs.Two.{seat_number, game_of, log_of}
-use Rattle.two_seats.proofs.Networks.{below, at, messages_from, place, Same, turn_of, turns_of, same_network, seat_is, apart}
-use Rattle.two_seats.proofs.Peers.{same_standing}
+use Rattle.seats.proofs.OnePeer.{stays_sure, sends_written}
+use Rattle.seats.proofs.Turns.{not_far, peers_run, packets_turns}
+use Rattle.two_seats.specs.Two.{seat_number, game_of, log_of, event_of}
+use Rattle.two_seats.proofs.Networks.{below, at, messages_from, place, Same, turn_of, turns_of, same_network, seat_is, apart, written_same}
+use Rattle.two_seats.proofs.Peers.{same_events, same_standing}
 
 -- ---- what a log of two has
 
@@ -125,6 +125,71 @@ two_none_refused fits window ts narrow seat =
     subst (AllByRecursion (λ x. reading (length me.own) (message_bytes x) ≡ Ok x)) (v.packets seat)
     (all_from (length me.own) (seat_number (facing seat)) i (apart seat) m.packets
     (subst (λ xs. AllByRecursion (λ p. (p.seat ≡ i → 2 < 2) → packet_in 2 i (length xs) (packet_bytes 2 p) ≡ Ok p) m.packets) mine all))
+
+-- ---- one peer
+
+-- what a log at two seats has of one of the two
+abbrev pub two_log : TwoSeat → Log → TwoLog
+two_log Left log = record { own = row log 0; other = row log 1; acked = get_or log.acked 1 0 }
+two_log Right log = record { own = row log 1; other = row log 0; acked = get_or log.acked 0 0 }
+
+two_log_is : (seat : TwoSeat) (l : TwoLog) → two_log seat (log_of seat l) ≡ l
+two_log_is Left l = refl
+two_log_is Right l = refl
+
+new_is : (seat : TwoSeat) → new_log 2 (seat_number seat) ≡ log_of seat two_new_log
+new_is Left = refl
+new_is Right = refl
+
+abbrev pub two_events : List Event → List TwoEvent
+two_events [] = []
+two_events (Event.tick a ∷ es) = TwoEvent.tick a ∷ two_events es
+two_events (Event.arrival xs ∷ es) = TwoEvent.arrival xs ∷ two_events es
+
+two_events_is : (es : List Event) → map event_of (two_events es) ≡ es
+two_events_is [] = refl
+two_events_is (Event.tick a ∷ es) = ap (λ fs. Event.tick a ∷ fs) (two_events_is es)
+two_events_is (Event.arrival xs ∷ es) = ap (λ fs. Event.arrival xs ∷ fs) (two_events_is es)
+
+-- what events make of the new log of two
+from_new : (fits : ℕ → Bool) (window : ℕ) (seat : TwoSeat) (es : List TwoEvent) → with_events fits window (new_log 2 (seat_number seat)) (map event_of es) ≡ log_of seat (two_run fits window two_new_log es)
+from_new fits window seat es =
+    ap (λ log. with_events fits window log (map event_of es)) (new_is seat) ∙ same_events fits window seat two_new_log es
+
+pub two_peers_run : PeersRun
+two_peers_run fits window ts seat =
+    let r = peers_run fits window 2 (turns_of fits window (new_network 2) ts) (at seat) in
+    let es : List TwoEvent = two_events r.0 in (
+      es,
+      sym (two_log_is seat (peer_at (two_network fits window ts) seat))
+          ∙ ap (two_log seat) (sym ((same_network fits window ts).peer seat) ∙ r.1 ∙ ap (with_events fits window (new_log 2 (seat_number seat))) (sym (two_events_is r.0)) ∙ from_new fits window seat es)
+          ∙ two_log_is seat (two_run fits window two_new_log es),
+    )
+
+pub two_stays_sure : (S : Type 0) → StaysSure S
+two_stays_sure S g seat fits window l es =
+    let to : TwoLog = two_run fits window l es in
+    let stays : Stays (game_of g) (log_of seat l) (log_of seat to) =
+    subst (Stays (game_of g) (log_of seat l)) (same_events fits window seat l es) (stays_sure S (game_of g) fits window (log_of seat l) (map event_of es)) in
+    let more : two_confirmed l ≤ two_confirmed to = omega (arith, stays.0, confirmed_is seat l, confirmed_is seat to) in (
+      more,
+      subst (λ xs. Begins xs to.own) (mine_is seat l) (subst (Begins (row (log_of seat l) (seat_number seat))) (mine_is seat to) (stays.1 (seat_number seat))),
+      subst (λ xs. Begins xs to.other) (other_is seat l) (subst (Begins (row (log_of seat l) (seat_number (facing seat)))) (other_is seat to) (stays.1 (seat_number (facing seat)))),
+      λ k h.
+          sym ((same_standing S g seat l).2 k h)
+          ∙ stays.2 k (omega (arith, h, confirmed_is seat l))
+          ∙ (same_standing S g seat to).2 k (omega (arith, h, more)),
+    )
+
+pub two_sends_written : SendsWritten
+unfolding least two_run
+two_sends_written fits window es =
+    let l : TwoLog = two_run fits window two_new_log es in
+    let is : with_events fits window (new_log 2 0) (map event_of es) ≡ log_of Left l = from_new fits window Left es in
+    ap (λ (p : Packet). p.message)
+    (subst (λ log. sent_packet log ≡ packet_from log (acked_by_all log) 120) is (sends_written fits window 2 (at Left) (map event_of es) (omega arith))
+    ∙ ap (λ n. packet_from (log_of Left l) n 120) (acked_is Left l)
+    ∙ written_same Left l l.acked 120)
 
 -- ---- a packet of each
 

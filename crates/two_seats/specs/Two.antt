@@ -31,7 +31,9 @@ event_of (TwoEvent.arrival xs) = Event.arrival xs
 
 -- a packet's bytes are those of its message
 abbrev pub SameBytes : Type 0
-SameBytes = (seat : ℕ) (m : Message) → packet_bytes 2 (record { seat = seat; message = m }) ≡ message_bytes m
+SameBytes =
+    (seat : ℕ) (m : Message) →
+    packet_bytes 2 (record { seat = seat; message = m }) ≡ message_bytes m
 
 -- the same happens to a peer in every event
 abbrev pub SameEvent : Type 0

@@ -1,6 +1,6 @@
 // Theorems about two seats, each on the contract of a function. What is promised of two peers is in
 // the words of network.
-ghost use Rattle.network.specs.Promise.{SameInputs, OneGame, NotFar, NoneRefused, BothSure};
+ghost use Rattle.network.specs.Promise.{SameInputs, OneGame, NotFar, NoneRefused, PeersRun, BothSure, StaysSure, SendsWritten};
 ghost use Rattle.two_seats.specs.Two.{SameBytes, SameEvent, SameEvents, SameStanding};
 
 /// With two seats a packet's bytes are those of its message, so formats do not change.
@@ -46,4 +46,19 @@ pub fn none_refused()
 /// was written.
 pub fn both_sure()
     ensures { BothSure }
+{}
+
+/// What holds of a peer after every row of events holds of both.
+pub fn peers_run()
+    ensures { PeersRun }
+{}
+
+/// Confirmed frames stay confirmed, with the same states, whatever bytes come.
+pub fn stays_sure<S>()
+    ensures { StaysSure S }
+{}
+
+/// What a peer sends is one of the packets that a peer of a network may write.
+pub fn sends_written()
+    ensures { SendsWritten }
 {}
