@@ -46,7 +46,7 @@ least_met (x ∷ xs) h =
 pub least_from : (m : ℕ) (xs : List ℕ) → 0 < length xs → ((k : ℕ) → k < length xs → m ≤ get_or xs k 0) → m ≤ least xs
 least_from m xs h each = let met = least_met xs h in omega (arith, each met.0 met.1, met.2)
 
-least_none : (xs : List ℕ) → length xs ≡ 0 → least xs ≡ 0
+pub least_none : (xs : List ℕ) → length xs ≡ 0 → least xs ≡ 0
 unfolding least
 least_none xs e = ap least (nil_from_length xs e)
 
@@ -59,7 +59,7 @@ least_grows xs ys e each =
 
 -- ---- all but one
 
-length-others : {A : Type 0} (i : ℕ) (xs : List A) → i < length xs → length (others i xs) ≡ length xs - 1
+pub length-others : {A : Type 0} (i : ℕ) (xs : List A) → i < length xs → length (others i xs) ≡ length xs - 1
 length-others i xs h = simp (length-append, length-take, length-drop) (omega arith)
 
 others_before : {A : Type 0} (i : ℕ) (xs : List A) (d : A) (k : ℕ) → i < length xs → k < i → get_or (others i xs) k d ≡ get_or xs k d
