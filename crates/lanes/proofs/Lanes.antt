@@ -5,7 +5,7 @@ use Rattle.std.specs.List.{range_with_len}
 use Rattle.std.proofs.lemmas.Bool.{cases_lt, cases_eq}
 use Rattle.std.proofs.lemmas.Bool.Decides.{nat_tests}
 use Rattle.std.proofs.lemmas.List.{length-take-le, length-replicate, get_or-replicate, ext_get_or, length-map, get_or-map, get_or-set_same, get_or-set_other, take_more_set, drop-set-lt, get_or-take, get_or-drop, places}
-use Rattle.std.proofs.lemmas.List.FromFn.{get_or-map-range_with_len, length-range_with_len, get_or-range_with_len}
+use Rattle.std.proofs.lemmas.List.FromFn.{length-range_with_len, get_or-range_with_len}
 use borrow.Rule.Slice.PartMut.{put_mid}
 use Rattle.peer.proofs.Logs.{joined_is, other_put, get_or_put_mid_other}
 use Rattle.packet.specs.Wire.{Message}
@@ -13,11 +13,11 @@ use Rattle.peer.specs.Peers.{joined}
 use Rattle.seats.specs.Peers.{Log, row, frames, with_row, with_message, least, others, predicted_input, predicted_inputs}
 use Rattle.seats.proofs.Least.{least_none, length-others, others_met}
 use Rattle.lanes.specs.declared.lane.Lane.{Lane}
-use Rattle.lanes.specs.Lanes.{place, row_in, log_in, HasInputRoom}
+use Rattle.lanes.specs.Lanes.{place, row_in, log_in}
 
 -- ---- places
 
-place_own : (seat : ℕ) → place seat seat ≡ 0
+pub place_own : (seat : ℕ) → place seat seat ≡ 0
 unfolding place
 place_own seat = grind (arith, nat_tests)
 
