@@ -37,9 +37,11 @@ impl<const SEATS: usize> Peer<SEATS> {
     /// A peer that has no inputs yet, or that it may not have such a window.
     pub fn new(seat: usize, window: usize) -> Result<Peer<SEATS>, Refusal>
         requires { (seat < SEATS) × (SEATS ≤ most_seats) }
-        ensures answer { MatchResult result (λ _. window_checked window ≡ Ok tt) (λ f. window_checked window ≡ Err f) }
+        ensures answer { MatchResult result (λ _. window_checked window ≡ Ok tt)
+            (λ f. window_checked window ≡ Err f) }
         ensures window { IfOk result (λ p. p.window ≡ window) }
-        ensures new { IfOk result (λ p. (inputs : List ℕ) → log_of p inputs ≡ new_log SEATS seat) }
+        ensures new { IfOk result (λ p. (inputs : List ℕ) →
+            log_of p inputs ≡ new_log SEATS seat) }
     {
         check_window(window)?;
         Ok(Peer {

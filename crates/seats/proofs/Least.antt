@@ -102,19 +102,6 @@ others_grows i xs ys h e each =
       | inr one ↦ omega (arith, least_none (others i xs) (omega (arith, length-others i xs h)))
     ]
 
--- the least of all is that of one and of the others
-pub least_split : (i : ℕ) (xs : List ℕ) → i < length xs → 1 < length xs → least xs ≡ min (get_or xs i 0) (least (others i xs))
-least_split i xs h two =
-    let met = others_met i xs h two in
-    let below : min (get_or xs i 0) (least (others i xs)) ≤ least xs =
-    least_from _ xs (omega arith)
-    (λ k l.
-    elim (cases_eq k i) [
-      | inl e ↦ omega (arith, ap (λ n. get_or xs n 0) e)
-      | inr e ↦ omega (arith, others_least i xs k h l e)
-    ]) in
-    omega (arith, below, least_le xs i h, least_le xs met.0 met.1, met.3)
-
 -- ---- one place of a list
 
 pub at_set : {A : Type 0} (xs : List A) (i : ℕ) (v d : A) (j : ℕ) (P : A → Type 0) → P (get_or xs j d) → (j ≡ i → P v) → P (get_or (set xs i v) j d)

@@ -12,7 +12,7 @@ use Rattle.seats.specs.Network.{Network, Seat, Turn, tick, send, deliver, with_p
 use Rattle.seats.specs.Peers.{Log, Event, arrival, new_log, row, own, with_message, with_event, confirmed}
 use Rattle.seats.specs.Promise.{SameInputs, OneGame, NoneRefused}
 use Rattle.seats.proofs.OnePeer.{Grows, grows_refl, event_grows, event_message, confirmed_le, none_known}
-use Rattle.seats.proofs.Pairs.{Alone, Pair, Fair, fair_grows, fair_written, alone_tick, alone_arrival, pair_tick, pair_message, pair_beside, read_as}
+use Rattle.seats.proofs.Pairs.{Alone, Pair, Fair, fair_grows, fair_written, alone_event, pair_tick, pair_message, pair_beside, read_as}
 use Rattle.seats.proofs.Plays.{rows_same}
 use Rattle.seats.proofs.Turns.{by_peer, by_delivery, delivery_grows}
 
@@ -113,7 +113,7 @@ module _ (fits : ℕ → Bool) (window : ℕ) (narrow : Narrow fits) {seats : �
   inv_turn n (tick i a) v =
       let me : Log = n.peers i.0 in
       let e : me.seat ≡ i.0 = v.seat i.0 in
-      inv_peer window seats n i.0 (with_event fits window me (Event.tick a)) i.1 v (alone_tick window seats fits me a narrow (v.alone i.0 i.1)) (event_grows fits window me (Event.tick a))
+      inv_peer window seats n i.0 (with_event fits window me (Event.tick a)) i.1 v (alone_event window seats fits me (Event.tick a) narrow (v.alone i.0 i.1)) (event_grows fits window me (Event.tick a))
       (λ j h apart. pair_tick window seats fits me (n.peers j) a (λ f. apart (sym (v.seat j) ∙ f ∙ e)) (v.pairs i.0 j i.1 h apart))
   inv_turn n (send i from k) v =
       let me : Log = n.peers i.0 in
@@ -132,7 +132,7 @@ module _ (fits : ℕ → Bool) (window : ℕ) (narrow : Narrow fits) {seats : �
       let each : AllByRecursion (λ l. l.seat ≢ me.seat → Good (with_event fits window me (arrival (packet_bytes seats l)))) n.packets =
       All-weaker (Fine window seats n.peers) _
       (λ l f apart. (
-        alone_arrival window seats fits me (packet_bytes seats l) (v.alone i.0 i.1),
+        alone_event window seats fits me (arrival (packet_bytes seats l)) narrow (v.alone i.0 i.1),
         λ j h other.
             subst (λ to. Pair window to (n.peers j)) (sym (event_is window seats fits n v i.0 i.1 l f (λ g. apart (g ∙ sym e))))
             (pair_message window seats me (n.peers j) l.seat l.message (v.alone i.0 i.1) (omega (arith, v.seat j, h)) (λ g. other (sym (v.seat j) ∙ g ∙ e)) (v.pairs i.0 j i.1 h other)

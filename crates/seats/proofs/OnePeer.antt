@@ -111,7 +111,7 @@ module _ (fits : ℕ → Bool) (window : ℕ) where
   pub row_message : (log : Log) (seat j : ℕ) (m : Message) → j ≢ seat → row (with_message log seat m) j ≡ row log j
   row_message log seat j m apart = get_or-set_other log.rows seat j (joined (row log seat) m) [] apart
 
-  arrival_own : (log : Log) (xs : List ℕ) → own (with_event fits window log (arrival xs)) ≡ own log
+  pub arrival_own : (log : Log) (xs : List ℕ) → own (with_event fits window log (arrival xs)) ≡ own log
   arrival_own log xs = by_arrival log xs (λ to. own to ≡ own log) refl (λ l _ apart. row_message log l.seat log.seat l.message (λ e. apart (sym e)))
 
   -- it is not too far ahead, and no seat acknowledged more than it made

@@ -14,10 +14,10 @@ use Rattle.packet.specs.Wire.{Message}
 use Rattle.peer.specs.Peers.{joined}
 use Rattle.seats.specs.Packets.{Packet, packet_bytes, ack_limit, packet_in}
 use Rattle.seats.specs.Network.{packet_from}
-use Rattle.seats.specs.Peers.{Log, tick, arrival, row, own, counts, fewest, acked_by_all, with_row, with_message, with_event}
+use Rattle.seats.specs.Peers.{Log, Event, tick, arrival, row, own, counts, fewest, acked_by_all, with_row, with_message, with_event}
 use Rattle.seats.proofs.Least.{others_least, others_met}
 use Rattle.seats.proofs.Packets.{packet_read}
-use Rattle.seats.proofs.OnePeer.{Grows, by_tick, by_arrival, event_grows, more_counts, near_event, acks_event, count_at, length-counts, own_row, row_message}
+use Rattle.seats.proofs.OnePeer.{Grows, by_tick, arrival_own, event_grows, more_counts, near_event, acks_event, count_at, length-counts, own_row}
 
 -- ---- inputs of a packet that join on
 
@@ -104,25 +104,28 @@ module _ (window seats : ℕ) where
         near = omega (arith, len, a.near);
       }
 
-  -- ---- a frame's time
+  -- ---- an event
 
-  pub alone_tick : (fits : ℕ → Bool) (log : Log) (a : ℕ) → Narrow fits → Alone window seats log → Alone window seats (with_event fits window log (tick a))
-  alone_tick fits log a narrow h =
-      let to : Log = with_event fits window log (tick a) in
-      let g : Grows log to = event_grows fits window log (tick a) in
-      let there : log.seat < length log.rows = omega (arith, h.here, h.many) in
-      let both : AllByRecursion (λ b. b ≤ 15) (own to) × (length (own to) ≤ 1000000) =
+  own_fits : (fits : ℕ → Bool) (log : Log) (e : Event) → Narrow fits → Alone window seats log → AllByRecursion (λ b. b ≤ 15) (own (with_event fits window log e)) × (length (own (with_event fits window log e)) ≤ 1000000)
+  own_fits fits log (tick a) narrow h =
       by_tick fits window log a (λ on. AllByRecursion (λ b. b ≤ 15) (own on) × (length (own on) ≤ 1000000)) (h.fit, h.few)
       (λ ok few near.
-      let e = own_row log (own log ++ a ∷ []) there in
-      (subst (AllByRecursion (λ b. b ≤ 15)) (sym e) (All-push (λ b. b ≤ 15) (own log) a h.fit (narrow a ok)), omega (arith, ap length e, length_push (own log) a))) in
+      let e = own_row log (own log ++ a ∷ []) (omega (arith, h.here, h.many)) in
+      (subst (AllByRecursion (λ b. b ≤ 15)) (sym e) (All-push (λ b. b ≤ 15) (own log) a h.fit (narrow a ok)), omega (arith, ap length e, length_push (own log) a)))
+  own_fits fits log (arrival xs) narrow h =
+      let e = arrival_own fits window log xs in (subst (AllByRecursion (λ b. b ≤ 15)) (sym e) h.fit, omega (arith, ap length e, h.few))
+
+  pub alone_event : (fits : ℕ → Bool) (log : Log) (e : Event) → Narrow fits → Alone window seats log → Alone window seats (with_event fits window log e)
+  alone_event fits log e narrow h =
+      let g : Grows log (with_event fits window log e) = event_grows fits window log e in
+      let own = own_fits fits log e narrow h in
       record {
         here = omega (arith, h.here, g.same_seat);
         many = g.many ∙ h.many;
-        acks = acks_event fits window log (tick a) ∙ h.acks;
-        near = near_event fits window log (tick a) there h.near;
-        fit = both.0;
-        few = both.1;
+        acks = acks_event fits window log e ∙ h.acks;
+        near = near_event fits window log e (omega (arith, h.here, h.many)) h.near;
+        fit = own.0;
+        few = own.1;
       }
 
   pub pair_tick : (fits : ℕ → Bool) (me you : Log) (a : ℕ) → you.seat ≢ me.seat → Pair window me you → Pair window (with_event fits window me (tick a)) you
@@ -158,25 +161,6 @@ module _ (window seats : ℕ) where
         comes = λ g. comes (sym e ∙ g);
         proper = record { few = f.few; whole = omega (arith, b.few, f.made); fit = all_fit m.inputs f.fit; known = known };
       })
-
-  pub alone_arrival : (fits : ℕ → Bool) (log : Log) (xs : List ℕ) → Alone window seats log → Alone window seats (with_event fits window log (arrival xs))
-  alone_arrival fits log xs h =
-      let to : Log = with_event fits window log (arrival xs) in
-      let g : Grows log to = event_grows fits window log (arrival xs) in
-      let there : log.seat < length log.rows = omega (arith, h.here, h.many) in
-      let both : AllByRecursion (λ b. b ≤ 15) (own to) × (length (own to) ≤ 1000000) =
-      by_arrival fits window log xs (λ on. AllByRecursion (λ b. b ≤ 15) (own on) × (length (own on) ≤ 1000000)) (h.fit, h.few)
-      (λ l _ apart.
-      let e = row_message fits window log l.seat log.seat l.message (λ f. apart (sym f)) in
-      (subst (AllByRecursion (λ b. b ≤ 15)) (sym e) h.fit, omega (arith, ap length e, h.few))) in
-      record {
-        here = omega (arith, h.here, g.same_seat);
-        many = g.many ∙ h.many;
-        acks = acks_event fits window log (arrival xs) ∙ h.acks;
-        near = near_event fits window log (arrival xs) there h.near;
-        fit = both.0;
-        few = both.1;
-      }
 
   -- of its writer there are more inputs then, of the others as many as before
   pair_writer : (me you : Log) (m : Message) → Alone window seats me → you.seat < seats → you.seat ≢ me.seat → Pair window me you → Fair window seats you m → Pair window (with_message me you.seat m) you

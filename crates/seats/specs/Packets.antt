@@ -13,6 +13,10 @@ pub record Packet : Type 0 where
 abbrev pub most_packet_inputs : ℕ
 most_packet_inputs = 120
 
+-- the "H" that a packet begins with
+abbrev pub mark : ℕ
+mark = 72
+
 -- the byte behind the "H" is no seat of the game, or the message is in fault
 pub data ReadError : Type 0 where
   no_seat : ReadError
@@ -41,7 +45,7 @@ packet_from_seat at own seat bytes =
 -- the "H" is there, and the byte behind it is no seat
 abbrev pub names_no_seat : ℕ → List ℕ → Bool
 names_no_seat seats xs =
-    nat_lt 1 (length xs) && slice_index xs 0 == 72 && not (nat_lt (slice_index xs 1) seats)
+    nat_lt 1 (length xs) && slice_index xs 0 == mark && not (nat_lt (slice_index xs 1) seats)
 
 -- with two seats every packet is from the other
 unfoldable pub packet_in : ℕ → ℕ → ℕ → List ℕ → Result Packet ReadError

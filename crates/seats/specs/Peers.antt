@@ -114,7 +114,7 @@ AsPredicted before after =
 abbrev pub shown_state : {S : Type 0} → Game S → Log → S
 shown_state g log = plays g g.start (predicted_inputs log.rows) (frames log)
 
--- ---- what it is sure of
+-- ---- what is confirmed
 
 -- confirmed are the frames that it played and of which it has the inputs of all seats
 abbrev pub confirmed : Log → ℕ

@@ -62,7 +62,7 @@ plays_two g s xs ys (suc k) p q =
     ∙ sym (ap₂ (two_plays g s) ex ey)
 
 -- what is filled in is what is predicted
-filled_at : (m d : ℕ) (xs : List ℕ) (i : ℕ) → i < m → get_or (filled m d xs) i 0 ≡ get_or xs (min i (length xs - 1)) d
+pub filled_at : (m d : ℕ) (xs : List ℕ) (i : ℕ) → i < m → get_or (filled m d xs) i 0 ≡ get_or xs (min i (length xs - 1)) d
 unfolding filled
 filled_at zero d xs i h = let no : ⊥ = omega arith in absurd no
 filled_at (suc m) d [] zero h = refl
@@ -77,7 +77,7 @@ filled_at (suc m) d (x ∷ (y ∷ ys)) (suc i) h =
     ∙ get_or_default (y ∷ ys) (min i (suc (length ys) - 1)) x d (omega arith)
     ∙ sym (ap (λ n. get_or (x ∷ (y ∷ ys)) n d) e)
 
-length_filled : (m d : ℕ) (xs : List ℕ) → length (filled m d xs) ≡ m
+pub length_filled : (m d : ℕ) (xs : List ℕ) → length (filled m d xs) ≡ m
 unfolding filled
 length_filled zero d xs = refl
 length_filled (suc m) d [] = ap suc (length_filled m d [])

@@ -26,7 +26,7 @@ use Rattle.two_seats.proofs.Peers.{same_events, same_standing}
 
 -- ---- what a log of two has
 
-own_is : (seat : TwoSeat) (l : TwoLog) → own (log_of seat l) ≡ l.own
+pub own_is : (seat : TwoSeat) (l : TwoLog) → own (log_of seat l) ≡ l.own
 own_is Left l = refl
 own_is Right l = refl
 

@@ -1,6 +1,6 @@
 // Theorems about two seats, each on the contract of a function. What is promised of two peers is in
 // the words of network.
-ghost use Rattle.network.specs.Promise.{SameInputs, OneGame, NotFar, NoneRefused, PeersRun, BothSure, StaysSure, SendsWritten};
+ghost use Rattle.network.specs.Promise.{SameInputs, OneGame, NotFar, NoneRefused, PeersRun, BothSure, StaysSure, Guessed, SendsWritten};
 ghost use Rattle.two_seats.specs.Two.{SameBytes, SameEvent, SameEvents, SameStanding};
 
 /// With two seats a packet's bytes are those of its message, so formats do not change.
@@ -56,6 +56,12 @@ pub fn peers_run()
 /// Confirmed frames stay confirmed, with the same states, whatever bytes come.
 pub fn stays_sure<S>()
     ensures { StaysSure S }
+{}
+
+/// Where the inputs that came are those that were predicted, and only there, the prediction does not
+/// change; then nothing that is shown does.
+pub fn guessed<S>()
+    ensures { Guessed S }
 {}
 
 /// What a peer sends is one of the packets that a peer of a network may write.
