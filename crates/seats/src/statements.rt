@@ -4,6 +4,7 @@ ghost use Rattle.seats.specs.Plain.{FromSaved};
 ghost use Rattle.seats.specs.Promise.{SameInputs, OneGame, NotFar, NoneRefused, PeersRun, AllSure, SixtyIsMost, StaysSure, Guessed, OwnBack, SendsWritten};
 
 /// Playing on from a state on the way is playing from the beginning, for the states of every type.
+/// That a saved state is read back as it was is not said here.
 #[tactic(auto, using(crate::proofs::Plays::from_saved))]
 pub fn from_saved<S>()
     ensures { FromSaved S }
@@ -50,7 +51,8 @@ pub fn none_refused()
     ensures { NoneRefused }
 {}
 
-/// What holds of a peer after every row of events holds of every peer of a network.
+/// What holds of a peer after every row of events holds of every peer of a network. Which events
+/// they were is not said.
 #[tactic(auto, using(crate::proofs::Turns::peers_run))]
 pub fn peers_run()
     ensures { PeersRun }
@@ -66,7 +68,8 @@ pub fn all_sure()
     ensures beyond { SixtyIsMost }
 {}
 
-/// Confirmed frames stay confirmed, with the same inputs and states, whatever bytes come.
+/// Confirmed frames stay confirmed, with the same inputs and states, whatever bytes come. That any
+/// more are ever confirmed is not said.
 pub fn stays_sure<S>()
     ensures { StaysSure S }
 {}
@@ -84,7 +87,8 @@ pub fn own_back()
     ensures { OwnBack }
 {}
 
-/// What a peer sends is one of the packets that a peer of a network may write.
+/// What a peer sends is one of the packets that a peer of a network may write. That it comes to
+/// anybody is not said.
 #[tactic(auto, using(crate::proofs::OnePeer::sends_written))]
 pub fn sends_written()
     ensures { SendsWritten }

@@ -17,7 +17,8 @@ pub fn same_event()
     ensures row { SameEvents }
 {}
 
-/// It is sure of as many frames, with the same states, shows the same, and sends the same.
+/// It is sure of as many frames, with the same states, shows the same, and sends the same. How many
+/// frames an event plays is not compared.
 pub fn same_standing<S>()
     ensures { SameStanding S }
 {}
@@ -43,7 +44,7 @@ pub fn none_refused()
 {}
 
 /// With a window of 60 or less a packet of each that came is enough to confirm what was made when it
-/// was written.
+/// was written. That with 61 it is not, `network::statements::both_sure` says.
 pub fn both_sure()
     ensures { BothSure }
 {}
