@@ -1,0 +1,3 @@
+pub mod Lasting
+pub mod Sums
+pub mod Writes

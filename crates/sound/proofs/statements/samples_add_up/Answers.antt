@@ -1,0 +1,9 @@
+use Rattle.sound.proofs.Sums.{sums_to_zero}
+use Rattle.sound.proofs.Writes.{whole}
+use Rattle.sound.proofs.statements.samples_add_up.Goals as goal
+
+pub returns-clause-whole : goal.returns-clause-whole
+returns-clause-whole c = whole
+
+pub returns-clause-zero : goal.returns-clause-zero
+returns-clause-zero c = sums_to_zero

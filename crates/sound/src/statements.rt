@@ -1,0 +1,17 @@
+// Theorems about tones and sounds, each on the contract of a function.
+ghost use Rattle.sound.specs.Tones.{NewestCounts, Lasts, Ends, StaysSilent};
+ghost use Rattle.sound.specs.Sound.{SumsToZero, Whole};
+
+/// A tone lasts its frames and no longer, and a newer one replaces it.
+pub fn tones_last()
+    ensures newest { NewestCounts }
+    ensures lasts { Lasts }
+    ensures ends { Ends }
+    ensures silent { StaysSilent }
+{}
+
+/// A frame has its 800 samples, and those of a tone that is heard to its end add up to 0.
+pub fn samples_add_up()
+    ensures whole { Whole }
+    ensures zero { SumsToZero }
+{}
