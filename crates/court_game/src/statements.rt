@@ -1,6 +1,7 @@
 // Theorems about the plain game of the court, each on the contract of a function.
 ghost use Rattle.court.specs.declared.state.State.{State};
 ghost use Rattle.court_game.specs.Games.{StaysIn, RestsAtNine, GamesComeOut};
+ghost use Rattle.court_game.specs.Sounding.{CourtIsCourtGame};
 ghost use Rattle.game.specs.Plain.{FromSaved};
 
 // Ball and paddles stay in the court, whatever the inputs.
@@ -23,4 +24,10 @@ pub fn from_saved()
 // The table of games comes out as it says.
 pub fn games_come_out()
     ensures { GamesComeOut }
+{}
+
+/// The court knows nothing of its tone: that of the engine's game is the game of the court.
+#[tactic(auto, using(crate::proofs::Tones::court_is_court_game))]
+pub fn court_is_court_game()
+    ensures { CourtIsCourtGame }
 {}
