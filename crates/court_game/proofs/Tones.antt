@@ -5,7 +5,8 @@ use Rattle.court.specs.Cues.{cue_of}
 use Rattle.sound.specs.Sound.{bytes_of, sample_bytes, sound_after, sound_bytes, frame_samples}
 use Rattle.sound.specs.Tones.{tone_after}
 use Rattle.game.specs.Plain.{plays, seat_0, seat_1}
-use Rattle.court_game.specs.Sounding.{SoundingCourt, sounding_frame, CourtIsCourtGame}
+use Rattle.court_game.specs.Sounding.{InGame, SoundingCourt, sounding_game, sounding_frame, CourtIsCourtGame}
+use Rattle.court_game.specs.Saved.{court_lawful}
 use Rattle.court_game.specs.Sounds.{cues_of}
 
 pub court_is_court_game : CourtIsCourtGame
@@ -13,6 +14,13 @@ unfolding plays
 court_is_court_game s [] ys = refl
 court_is_court_game s (x ∷ xs) [] = refl
 court_is_court_game s (x ∷ xs) (y ∷ ys) = court_is_court_game (sounding_frame s x y) xs ys
+
+-- a game comes to states in the court, with tones that are not over
+pub plays_in_game : (s : SoundingCourt) → InGame s → (xs ys : List ℕ) → InGame (plays sounding_game s xs ys)
+unfolding plays
+plays_in_game s h [] ys = h
+plays_in_game s h (x ∷ xs) [] = h
+plays_in_game s h (x ∷ xs) (y ∷ ys) = plays_in_game (sounding_frame s x y) (court_lawful.goes_on s x y h) xs ys
 
 -- ---- what is heard
 

@@ -10,6 +10,7 @@ pub mod layout;
 pub mod player;
 mod read;
 pub mod show;
+pub mod sounds;
 pub mod statements;
 pub mod write;
 
