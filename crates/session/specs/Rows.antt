@@ -1,14 +1,16 @@
 -- A session of the court's game over a row of events. Assumes nothing: these are definitions.
-use Rattle.std.specs.Prelude.{◌≡◌, ℕ, Bool, false, cond, List, [], ◌∷◌, ◌++◌, Option}
+use Rattle.std.specs.Prelude.{◌≡◌, ℕ, Bool, false, cond, ◌&&◌, List, [], ◌∷◌, ◌++◌, Option}
 use Rattle.court_game.specs.Games.{is_input}
 use Rattle.court_game.specs.Saved.{court_saved}
+use Rattle.court_game.specs.Sounding.{sounding_game}
 use Rattle.game.specs.declared.seat.Seat.{Seat}
 use Rattle.packet.specs.Wire.{message_bytes}
 use Rattle.peer.specs.declared.numbers.Peer.{Peer}
-use Rattle.peer.specs.Peers.{Log, Event, tick, arrival, event, new_log, run, sends}
+use Rattle.peer.specs.Peers.{Log, Event, tick, arrival, event, goes_on, new_log, run, sends, shows}
 use Rattle.rollback.specs.Rows.{Memory, StandsFor}
 use Rattle.session.specs.Events.{sent, packet_over}
 use Rattle.session.specs.Files.{event_bytes}
+use Rattle.sound.specs.Sound.{sound_bytes}
 
 -- the log of a peer to which a row of events happened, from its beginning
 abbrev pub log_after : ℕ → List Event → Log
@@ -39,3 +41,18 @@ packets_sent window log [] = []
 packets_sent window log (e ∷ es) =
     cond (tells e) (event_bytes (arrival (message_bytes (sends (event is_input window log e))))) []
     ++ packets_sent window (event is_input window log e) es
+
+-- ---- all that is heard
+
+-- whether an event plays a frame that was not played before, where memory is long enough: it makes the own inputs longer
+abbrev pub plays_next : ℕ → Log → Event → Bool
+plays_next window log (tick a) = is_input a && goes_on window log
+plays_next window log (arrival xs) = false
+
+-- the sounds that are handed out over a row of events: of each frame that is played next, what then is shown of it. Frames that are
+-- played again are not handed out again; a tick that is lost hands out nothing, and no packet does
+unfoldable pub sounds_handed : Seat → ℕ → Log → List Event → List ℕ
+sounds_handed seat window log [] = []
+sounds_handed seat window log (e ∷ es) =
+    cond (plays_next window log e) (sound_bytes (shows sounding_game seat (event is_input window log e)).tone) []
+    ++ sounds_handed seat window (event is_input window log e) es
