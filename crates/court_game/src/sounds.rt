@@ -1,14 +1,15 @@
 // The sound of the court's game, frame after frame.
-ghost use Rattle.std.specs.Prelude.{◌≡◌, ◌++◌, map, OnOk, OnErr};
+ghost use Rattle.std.specs.Prelude.{◌≡◌, ◌≤◌, ◌++◌, length, map, IfOk, OnOk, OnErr};
 ghost use Rattle.court_game.specs.Sounds.{game_sound};
 ghost use Rattle.game.specs.Plain.{seat_0, seat_1};
 ghost use Rattle.sound.specs.Sound.{sound_bytes};
 ghost use Rattle.sound.specs.Sounding.{sounding};
+ghost use Rattle.sound.specs.Wav.{wav_header_of};
 
 use crate::sounding::CourtGame;
 use game::rules::Game;
-use sound::{FRAME_BYTES, Tone, write_samples};
-use std::alloc::AllocError;
+use sound::{FRAME_BYTES, Tone, wav_header, write_samples};
+use std::alloc::{AllocError, Global};
 
 /// Puts a frame's samples behind those that are there, whole or not at all.
 pub fn keep_sound(tone: Tone, samples: &mut Vec<u8>) -> Result<(), AllocError>
@@ -30,4 +31,17 @@ pub fn keep_game_sound(frames: &[u8], samples: &mut Vec<u8>) -> Result<(), Alloc
         keep_sound(game.tone, samples)?;
     }
     Ok(())
+}
+
+/// The sound of a game as a WAV file, by frames of one byte; at most `MOST_FRAMES` of them.
+pub fn game_wav(heap: Global, frames: &[u8]) -> Result<Vec<u8>, AllocError>
+    requires { length frames.now ≤ 1000000 }
+    ensures { IfOk result (λ file. file.items ≡
+        wav_header_of (length frames.now) ++ game_sound (map seat_0 frames.now) (map seat_1 frames.now)) }
+{
+    let mut file = Vec::new(heap);
+    // The check proves that the cast loses nothing.
+    file.extend_from_slice(&wav_header(frames.len() as u32))?;
+    keep_game_sound(frames, &mut file)?;
+    Ok(file)
 }

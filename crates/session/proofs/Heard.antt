@@ -1,22 +1,26 @@
 -- All sounds that a peer hands out over a row of events. Assumes nothing.
-use Rattle.std.proofs.Common.{◌≡◌, ℕ, ◌+◌, ◌*◌, ◌<◌, ◌≤◌, Bool, true, false, ◌&&◌, cond, ltb, leb, List, [], ◌∷◌, ◌++◌, length, inl, inr, sym, refl, ap, ◌∙◌, arith, append-nil, le-ltb, lt-ltb}
+use Rattle.std.proofs.Common.{◌≡◌, ℕ, ◌+◌, ◌*◌, ◌<◌, ◌≤◌, Bool, true, false, ◌&&◌, cond, ltb, leb, List, [], ◌∷◌, ◌++◌, length, Ok, Err, Result, inl, inr, sym, refl, ap, ◌∙◌, arith, append-nil, length-append, le-ltb, lt-ltb}
 use Rattle.std.proofs.lemmas.Bool.{cases_lt}
-use Rattle.std.proofs.lemmas.List.{append_assoc}
+use Rattle.std.proofs.lemmas.List.{append_assoc, length_push}
 use Rattle.court_game.specs.Saved.{court_saved}
 use Rattle.court_game.specs.Sounding.{sounding_game}
 use Rattle.game.specs.declared.seat.Seat.{Seat}
 use Rattle.network.proofs.Rows.{run_append}
 use Rattle.peer.specs.declared.refusal.Refusal.TheVariants.{Input}
 use Rattle.peer.specs.Lent.{log_of}
-use Rattle.peer.specs.Peers.{Log, Event, tick, arrival, event, goes_on, new_log, run, shows}
+use Rattle.packet.specs.Wire.{Message, reading}
+use Rattle.packet.specs.declared.fault.Fault.{Fault}
+use Rattle.peer.specs.Peers.{Log, Event, tick, arrival, event, goes_on, heard, new_log, run, shows}
 use Rattle.rollback.specs.declared.outcome.Outcome.{Outcome}
 use Rattle.rollback.specs.declared.outcome.Outcome.TheVariants.{Taken, Lost, Refused}
 use Rattle.rollback.specs.Rows.{Memory, StandsFor}
 use Rattle.rollback.specs.Said.{said_tick}
 use Rattle.session.specs.Events.{said, hands}
-use Rattle.session.specs.Rows.{log_after, plays_next, sounds_handed}
+use Rattle.session.specs.Rows.{log_after, plays_next, sounds_handed, HandedOnce}
 use Rattle.session.proofs.Rowed.{run_push}
 use Rattle.sound.specs.Sound.{sound_bytes}
+use Rattle.sound.specs.Tones.{Sounding}
+use Rattle.sound.proofs.Writes.{whole}
 
 -- ---- whether one is handed out: after a tick that plays a frame
 
@@ -93,3 +97,32 @@ heard_more seat window before es e now after l more =
     ∙ ap (λ zs. zs ++ sounds_handed seat window (log_after window (before ++ es)) (e ∷ [])) l
     ∙ ap (λ log. sounds_handed seat window (log_after window before) es ++ sounds_handed seat window log (e ∷ [])) (run_append (λ b. leb b 15) window new_log before es)
     ∙ sym (heard_all seat window (log_after window before) es (e ∷ []))
+
+-- ---- each frame once
+
+played_by : (played : Bool) (t : Sounding) (log : Log) (a : ℕ) → length (cond played (sound_bytes t) []) + 1600 * length log.own ≡ 1600 * length (cond played (record { own = log.own ++ a ∷ []; other = log.other; acked = log.acked }) log).own
+played_by true t log a =
+    let l : length (sound_bytes t) ≡ 1600 = (whole t).1 in
+    let m = length_push log.own a in
+    omega arith
+played_by false t log a = omega arith
+
+came_by : (log : Log) (r : Result Message Fault) → length (heard log r).own ≡ length log.own
+came_by log (Ok m) = refl
+came_by log (Err f) = refl
+
+once_each : (seat : Seat) (window : ℕ) (log : Log) (e : Event) → length (as_heard seat (plays_next window log e) (event (λ b. leb b 15) window log e)) + 1600 * length log.own ≡ 1600 * length (event (λ b. leb b 15) window log e).own
+unfolding event
+once_each seat window log (tick a) = played_by (leb a 15 && goes_on window log) _ log a
+once_each seat window log (arrival xs) = let s = came_by log (reading (length log.own) xs) in omega arith
+
+pub handed_once : HandedOnce
+unfolding sounds_handed run
+handed_once seat window log [] = omega arith
+handed_once seat window log (e ∷ es) =
+    let next : Log = event (λ b. leb b 15) window log e in
+    let first : List ℕ = as_heard seat (plays_next window log e) next in
+    let l = length-append first (sounds_handed seat window next es) in
+    let one = once_each seat window log e in
+    let rest = handed_once seat window next es in
+    omega arith

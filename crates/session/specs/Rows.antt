@@ -1,5 +1,5 @@
 -- A session of the court's game over a row of events. Assumes nothing: these are definitions.
-use Rattle.std.specs.Prelude.{◌≡◌, ℕ, Bool, false, cond, ◌&&◌, List, [], ◌∷◌, ◌++◌, Option}
+use Rattle.std.specs.Prelude.{◌≡◌, ℕ, ◌+◌, ◌*◌, Bool, false, cond, ◌&&◌, List, [], ◌∷◌, ◌++◌, length, Option}
 use Rattle.court_game.specs.Games.{is_input}
 use Rattle.court_game.specs.Saved.{court_saved}
 use Rattle.court_game.specs.Sounding.{sounding_game}
@@ -56,3 +56,10 @@ sounds_handed seat window log [] = []
 sounds_handed seat window log (e ∷ es) =
     cond (plays_next window log e) (sound_bytes (shows sounding_game seat (event is_input window log e)).tone) []
     ++ sounds_handed seat window (event is_input window log e) es
+
+-- each frame is handed out once: over any row of events, right and wrong, there are 1,600 bytes for each frame by which the own
+-- inputs become longer, whatever came in between
+abbrev pub HandedOnce : Type 0
+HandedOnce =
+    (seat : Seat) (window : ℕ) (log : Log) (es : List Event) →
+    length (sounds_handed seat window log es) + 1600 * length log.own ≡ 1600 * length (run is_input window log es).own
