@@ -1,6 +1,7 @@
 // Theorems about tones and sounds, each on the contract of a function.
 ghost use Rattle.sound.specs.Tones.{NewestCounts, Lasts, Ends, StaysSilent};
-ghost use Rattle.sound.specs.Sound.{SumsToZero, Whole};
+ghost use Rattle.sound.specs.Sound.{SumsToZero, Whole, FrameByFrame};
+ghost use Rattle.sound.specs.Wav.{LengthsAreTold};
 
 /// A tone lasts its frames and no longer, and a newer one replaces it.
 pub fn tones_last()
@@ -14,4 +15,10 @@ pub fn tones_last()
 pub fn samples_add_up()
     ensures whole { Whole }
     ensures zero { SumsToZero }
+{}
+
+/// A sound is written frame by frame, and the lengths in a WAV file are those of the file.
+pub fn sounds_are_whole()
+    ensures frames { FrameByFrame }
+    ensures lengths { LengthsAreTold }
 {}
