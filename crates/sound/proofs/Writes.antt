@@ -1,9 +1,9 @@
 -- Samples written one behind the other. Assumes nothing.
-use Rattle.std.proofs.Common.{◌≡◌, ℕ, zero, suc, ◌+◌, ◌*◌, List, [], ◌∷◌, ◌++◌, length, drop, ℤ, sym, refl, ap, ◌∙◌, append_assoc, arith}
+use Rattle.std.proofs.Common.{◌≡◌, ℕ, zero, suc, ◌+◌, ◌*◌, ◌<◌, List, [], ◌∷◌, ◌++◌, length, get_or, drop, ℤ, pos, sym, refl, ap, ◌∙◌, append_assoc, add-zero, arith}
 use borrow.Rule.Slice.PartMut.{put_mid}
 use Rattle.std.proofs.lemmas.List.{append-nil, length-append, take_at, drop_at, drop-drop}
 use Rattle.court.specs.declared.cue.Cue.{Cue}
-use Rattle.sound.specs.Sound.{bytes_of, sample_bytes, samples_from, tone_sample, frame_samples, samples_of, sound_after, sound_of, Whole, FrameByFrame}
+use Rattle.sound.specs.Sound.{bytes_of, sample_bytes, samples_from, tone_sample, frame_samples, samples_of, sound_after, sound_of, SamplesInPlace, Whole, FrameByFrame}
 use Rattle.sound.specs.Tones.{Sounding, silence, tone_after, tones_of}
 use Rattle.sound.specs.Wav.{wav_header_of, LengthsAreTold}
 
@@ -68,6 +68,16 @@ joins k e ys i j h =
     ∙ ap (λ l. front ++ l) (ap (λ l. ys ++ l) q ∙ ap (λ l. l ++ drop (2 * (j + 1)) e) h)
     ∙ sym (append_assoc front (sample_bytes (tone_sample k (i + j))) (drop (2 * (j + 1)) e))
     ∙ ap (λ l. l ++ drop (2 * (j + 1)) e) (sym (bytes_next k i j))
+
+sample_at : (k : Cue) (i n j : ℕ) → j < n → get_or (samples_from k i n) j (pos 0) ≡ tone_sample k (i + j)
+unfolding samples_from
+sample_at k i zero j h = let no : ⊥ = omega arith in absurd no
+sample_at k i (suc n) zero h = ap (tone_sample k) (sym (add-zero i))
+sample_at k i (suc n) (suc j) h = let l : j < n = omega arith in let e : suc i + j ≡ i + suc j = omega arith in sample_at k (suc i) n j l ∙ ap (tone_sample k) e
+
+pub in_place : SamplesInPlace
+unfolding frame_samples
+in_place t j h = sample_at t.kind (800 * t.age) 800 j h
 
 pub whole : Whole
 unfolding frame_samples

@@ -79,7 +79,8 @@ fn sample(tone: Tone, j: usize) -> i16
 
 /// Writes a frame's samples over the first bytes of `part`, and leaves those after them. A shorter slice is refused and stays as it was.
 pub fn write_samples(tone: Tone, part: &mut [u8]) -> Result<(), Refused>
-    ensures value { result ≡ (if nat_le FRAME_BYTES (length part.old) then Ok tt else Err Refused.TooShort) }
+    ensures value { result ≡
+        (if nat_le FRAME_BYTES (length part.old) then Ok tt else Err Refused.TooShort) }
     ensures samples { part.new ≡
         (if nat_le FRAME_BYTES (length part.old)
         then sound_bytes (sounding tone) ++ drop FRAME_BYTES part.old
