@@ -1,5 +1,4 @@
 -- A frame keeps a state in the court. Assumes nothing.
-use Rattle.std.specs.Prelude.{unsigned_abs}
 use Rattle.std.proofs.Common.{◌≡◌, ℕ, zero, suc, ◌+◌, ◌≤◌, ◌%◌, ◌<◌, Bool, true, false, cond, eqb, leb, ℤ, pos, ◌+ℤ◌, ◌-ℤ◌, neg_ℤ, ◌≤ℤ◌, refl, arith}
 use lib.Signed.{lt_z}
 use Rattle.std.proofs.lemmas.Int.{ints}
@@ -9,9 +8,9 @@ use Rattle.court.specs.declared.state.Paddle.{Paddle}
 use Rattle.court.specs.declared.state.Side.{Side}
 use Rattle.court.specs.declared.state.Side.TheVariants.{Left, Right}
 use Rattle.court.specs.declared.state.State.{State}
-use Rattle.court.specs.Frame.{between, size, inward, stepped, bit, paddle_moved, paddles_moved, ball_moved, meets, quickened, bent_by, sixteenth_of, step_count, step_length, along, step_moved, after_steps, struck, sent_back, both_at_once, in_goal, serve_ball, end_at, turned, end_met, ends_met, with_ball, ball_played, ball_played_by, over, advanced, advanced_by, start}
+use Rattle.court.specs.Frame.{between, size, inward, stepped, bit, paddle_moved, paddles_moved, ball_moved, meets, quickened, bent_by, sixteenth_of, step_count, step_moved, after_steps, struck, sent_back, both_at_once, in_goal, serve_ball, end_at, turned, end_met, ends_met, with_ball, ball_played, ball_played_by, over, advanced, advanced_by, start}
 use Rattle.court.specs.Bounds.{Within, Flying, BallIn, PaddleIn, OnCourt, InHalf, InCourt, InPlay}
-use Rattle.court.proofs.Steps.{step_length_most, steps_some, steps_enough, steps_few, along_in}
+use Rattle.court.proofs.Steps.{step_short_x, steps_few, along_in}
 
 -- ---- numbers
 
@@ -92,14 +91,11 @@ pub met_in : (k : ℕ) (l r : Paddle) (before moved : Ball) → InHalf Left l �
 met_in k l r before moved hl hr h i = met_by k l r before moved hl hr h i (meets moved l) (meets moved r) refl refl
 
 -- the ball after k steps of a frame
-pub step_short : (first : Ball) (i : ℕ) (v : ℤ) → Within (neg_ℤ (pos 768)) (pos 768) (along v (step_length (unsigned_abs first.dx) (step_count first) i))
-step_short first i v =
-    along_in v _ 768 (step_length_most (unsigned_abs first.dx) (step_count first) i 768 (steps_some first) (steps_enough first).0)
 
 -- one step more
 step_in : (l r : Paddle) (first b : Ball) → InHalf Left l → InHalf Right r → (k : ℕ) → Flying k b → Flying (suc k) (both_at_once l r b (step_moved first k b))
 step_in l r first b hl hr k i =
-    flies_on (k + 1) (suc k) _ (omega arith) (met_in k l r b (step_moved first k b) hl hr i (moved_in k b _ _ i (step_short first k b.dx)))
+    flies_on (k + 1) (suc k) _ (omega arith) (met_in k l r b (step_moved first k b) hl hr i (moved_in k b _ _ i (along_in b.dx _ 768 (step_short_x first k))))
 
 pub steps_in : (l r : Paddle) (first : Ball) → InHalf Left l → InHalf Right r → BallIn first → (k : ℕ) → Flying k (after_steps both_at_once l r first k)
 unfolding after_steps

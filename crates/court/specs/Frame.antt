@@ -1,8 +1,8 @@
 -- One frame of the game by its rules, in whole numbers. Positions are in 256ths of a dot, velocities are per frame.
 -- Assumes nothing: these are definitions.
-use Rattle.std.specs.Prelude.{ℕ, zero, suc, ◌+◌, ◌-◌, ◌/◌, ◌%◌, Bool, cond, if◌then◌else◌, ◌&&◌, ◌||◌, ℤ, pos, ◌+ℤ◌, ◌-ℤ◌, ◌*ℤ◌, neg_ℤ, ◌==◌, int_div, int_le, nat_le, nat_lt, max, unsigned_abs}
+use Rattle.std.specs.Prelude.{ℕ, zero, suc, ◌+◌, ◌-◌, ◌/◌, ◌%◌, Bool, cond, if◌then◌else◌, ◌&&◌, ◌||◌, ℤ, pos, ◌+ℤ◌, ◌-ℤ◌, neg_ℤ, ◌==◌, int_div, int_le, nat_le, nat_lt, max, unsigned_abs}
 use Rattle.std.specs.Int.Signed.{lt_z}
-use Rattle.std.specs.Int.{div_ceil, int_max, int_min, int_signum}
+use Rattle.std.specs.Int.{div_ceil, int_max, int_min}
 use Rattle.court.specs.declared.state.Ball.{Ball}
 use Rattle.court.specs.declared.state.Paddle.{Paddle}
 use Rattle.court.specs.declared.state.Score.{Score}
@@ -113,7 +113,7 @@ step_length d n i = d / n + (if nat_lt i (d % n) then 1 else 0)
 
 -- so far in the direction of a velocity; nowhere where that is 0
 unfoldable pub along : ℤ → ℕ → ℤ
-along v d = int_signum v *ℤ pos d
+along v d = if lt_z v (pos 0) then neg_ℤ (pos d) else (if lt_z (pos 0) v then pos d else pos 0)
 
 -- ---- 3. the ball moves so far in x and in y, and turns round at the upper and the lower wall
 

@@ -2,7 +2,7 @@
 ghost use Rattle.std.specs.Prelude.{◌≡◌, ◌+◌, ◌*◌, ◌<◌, ◌≤◌, pos, neg_ℤ};
 ghost use Rattle.court.specs.Bounds.{Within, Flying, BallIn, OnCourt, InHalf};
 ghost use Rattle.court.specs.declared.state.Side.TheVariants.{Left, Right};
-ghost use Rattle.court.specs.Frame.{top_speed, longest_step, most_steps, step_count, step_length, along, after_steps};
+ghost use Rattle.court.specs.Frame.{top_speed, longest_step, most_steps, step_count, step_length, step_moved, along, after_steps};
 ghost use Rattle.court.specs.Frame.{sixteenth_of, inward, quickened, bent_by, meets, ball_moved, struck, sent_back, both_at_once};
 
 use crate::span::{BALL_Y, SPEEDS};
@@ -34,12 +34,20 @@ pub(crate) fn into_court(from: Side, by: i32) -> i32
 }
 
 // So far in the direction of a velocity.
+#[tactic(auto, unfolding(crate::specs::Frame::along))]
 fn directed(velocity: i32, length: u32) -> i32
     requires { length ≤ longest_step }
     ensures value { result ≡ along velocity length }
     ensures short { Within (neg_ℤ (pos longest_step)) (pos longest_step) result }
 {
-    velocity.signum() * length as i32
+    let length = length as i32;
+    if velocity < 0 {
+        -length
+    } else if velocity > 0 {
+        length
+    } else {
+        0
+    }
 }
 
 // How many steps a ball's frame has.
@@ -55,11 +63,10 @@ fn count_steps(first: Ball) -> u32
 }
 
 // The length of step i of so many that are `total` long together.
+#[tactic(auto, unfolding(crate::specs::Frame::step_length))]
 fn length_of_step(total: u32, count: u32, i: u32) -> u32
-    requires some { 0 < count }
-    requires short { total ≤ longest_step * count }
-    ensures value { result ≡ step_length total count i }
-    ensures short { result ≤ longest_step }
+    requires { 0 < count }
+    ensures { result ≡ step_length total count i }
 {
     total / count + u32::from(i < total % count)
 }
@@ -196,6 +203,25 @@ impl FlyingBall {
             steps: self.steps + 1,
         }
     }
+
+    // Step i, counted from 0, of a frame of `count` steps, at whose beginning the ball was `first`.
+    fn step_of(self, first: Ball, count: u32, i: u32, left: Paddle, right: Paddle) -> FlyingBall
+        requires few { self.steps < most_steps }
+        requires counted { count ≡ step_count first }
+        requires left_half { InHalf Left left }
+        requires right_half { InHalf Right right }
+        ensures ball { result.ball ≡ both_at_once left right self.ball (step_moved first i self.ball) }
+        ensures steps { result.steps ≡ self.steps + 1 }
+    {
+        let by_x = length_of_step(first.dx.unsigned_abs(), count, i);
+        let by_y = length_of_step(first.dy.unsigned_abs(), count, i);
+        self.step(
+            directed(self.ball.dx, by_x),
+            directed(self.ball.dy, by_y),
+            left,
+            right,
+        )
+    }
 }
 
 // The ball after all steps of a frame.
@@ -210,15 +236,12 @@ pub(crate) fn fly(first: Ball, left: Paddle, right: Paddle) -> FlyingBall
         steps: 0,
     };
     let count = count_steps(first);
-    // A slow ball is not divided.
+    // One step is as long as the velocity: no division.
     if count == 1 {
         return flying.step(first.dx, first.dy, left, right);
     }
-    let (total_x, total_y) = (first.dx.unsigned_abs(), first.dy.unsigned_abs());
     for i in 0..count {
-        let by_x = directed(flying.ball.dx, length_of_step(total_x, count, i));
-        let by_y = directed(flying.ball.dy, length_of_step(total_y, count, i));
-        flying = flying.step(by_x, by_y, left, right);
+        flying = flying.step_of(first, count, i, left, right);
     }
     flying
 }
