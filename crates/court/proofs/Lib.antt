@@ -4,3 +4,4 @@ pub mod Signs
 pub mod Stays
 pub mod Ranges
 pub mod FormerRuleLemmas
+pub mod PassingLemmas

@@ -1,5 +1,6 @@
-// Steps 3 and 4 of a frame: the ball moves by its velocity and turns round at the walls, and the paddles that meet it send it back.
-ghost use Rattle.std.specs.Prelude.{◌≡◌, ◌+◌, ◌*◌, ◌<◌, ◌≤◌, pos, neg_ℤ};
+// Steps 3 and 4 of a frame: the ball moves by its velocity and turns round at the walls, and the
+// paddles that meet it send it back.
+ghost use Rattle.std.specs.Prelude.{◌≡◌, ◌+◌, ◌^◌, ◌<◌, ◌≤◌, pos, neg_ℤ};
 ghost use Rattle.court.specs.Bounds.{Within, Flying, BallIn, OnCourt, InHalf};
 ghost use Rattle.court.specs.declared.state.Side.TheVariants.{Left, Right};
 ghost use Rattle.court.specs.Frame.{top_speed, longest_step, most_steps, step_count, step_length, step_moved, along, after_steps};
@@ -11,13 +12,15 @@ use crate::{BALL_HALF, PADDLE_HALF_X, PADDLE_HALF_Y, TOP_SPEED};
 
 const GAIN: i32 = 32;
 
-// How far a ball goes in one step, in x and in y, at most: less than a paddle's reach, so that it passes through none.
+// How far a ball goes in one step, in x and in y, at most: less than a paddle's reach, so that it
+// passes through none.
 const LONGEST_STEP: u32 = 768;
 
 // As many steps as the fastest ball takes in a frame.
 const MOST_STEPS: u32 = TOP_SPEED as u32 / LONGEST_STEP;
 
-// How near the middles of a ball and a paddle are where they touch. In a constant stands no call, so a cast.
+// How near the middles of a ball and a paddle are where they touch. In a constant stands no call,
+// so a cast.
 const REACH_X: u32 = (PADDLE_HALF_X + BALL_HALF) as u32;
 
 const REACH_Y: u32 = (PADDLE_HALF_Y + BALL_HALF) as u32;
@@ -65,7 +68,8 @@ fn count_steps(first: Ball) -> u32
 // The length of step i of so many that are `total` long together.
 #[tactic(auto, unfolding(crate::specs::Frame::step_length))]
 fn length_of_step(total: u32, count: u32, i: u32) -> u32
-    requires { 0 < count }
+    requires some { 0 < count }
+    requires fits { total ≤ 2 ^ 31 }
     ensures { result ≡ step_length total count i }
 {
     total / count + u32::from(i < total % count)
@@ -194,7 +198,8 @@ impl FlyingBall {
         requires y { Within (neg_ℤ (pos longest_step)) (pos longest_step) by_y }
         requires left_half { InHalf Left left }
         requires right_half { InHalf Right right }
-        ensures ball { result.ball ≡ both_at_once left right self.ball (ball_moved by_x by_y self.ball) }
+        ensures ball { result.ball
+            ≡ both_at_once left right self.ball (ball_moved by_x by_y self.ball) }
         ensures steps { result.steps ≡ self.steps + 1 }
     {
         let moved = move_ball(self.ball, by_x, by_y);
@@ -210,7 +215,8 @@ impl FlyingBall {
         requires counted { count ≡ step_count first }
         requires left_half { InHalf Left left }
         requires right_half { InHalf Right right }
-        ensures ball { result.ball ≡ both_at_once left right self.ball (step_moved first i self.ball) }
+        ensures ball { result.ball
+            ≡ both_at_once left right self.ball (step_moved first i self.ball) }
         ensures steps { result.steps ≡ self.steps + 1 }
     {
         let by_x = length_of_step(first.dx.unsigned_abs(), count, i);

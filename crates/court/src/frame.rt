@@ -36,7 +36,8 @@ impl Court {
         }
     }
 
-    // The paddles go; then the wait falls by one, or where there is none the ball is played. A game that is over stays as it is.
+    // The paddles go; then the wait falls by one, or where there is none the ball is played. A game
+    // that is over stays as it is.
     pub fn frame(self, left: Input, right: Input) -> Court
         ensures value { result.state ≡ advanced self.state left.0 right.0 }
         ensures inside { InCourt result.state }

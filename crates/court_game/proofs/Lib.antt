@@ -1,2 +1,3 @@
 pub mod Stays
 pub mod Codes
+pub mod PassingLemmas

@@ -1,6 +1,8 @@
 // Theorems about the plain game of the court, each on the contract of a function.
 ghost use Rattle.court.specs.declared.state.State.{State};
+ghost use Rattle.court.specs.Passing.{StepsAreShort, FastBallIsSentBack};
 ghost use Rattle.court_game.specs.Games.{StaysIn, RestsAtNine, GamesComeOut};
+ghost use Rattle.court_game.specs.Passing.{NoBallPasses, MomentsAreOfTheGame};
 ghost use Rattle.game.specs.Plain.{FromSaved};
 
 // Ball and paddles stay in the court, whatever the inputs.
@@ -23,4 +25,14 @@ pub fn from_saved()
 // The table of games comes out as it says.
 pub fn games_come_out()
     ensures { GamesComeOut }
+{}
+
+/// No ball passes through a paddle, whatever the inputs. From each moment of a game to the next the ball's middle gets from one
+/// side of a paddle to the other, between the paddle's ends, only where that paddle meets it, or an end or a serve puts it there.
+#[tactic(auto, using(court::proofs::PassingLemmas::steps_are_short, court::proofs::PassingLemmas::fast_ball_is_sent_back, crate::proofs::PassingLemmas::no_ball_passes, crate::proofs::PassingLemmas::moments_are_of_the_game))]
+pub fn no_ball_passes()
+    ensures steps { StepsAreShort }
+    ensures passes { NoBallPasses }
+    ensures moments { MomentsAreOfTheGame }
+    ensures example { FastBallIsSentBack }
 {}
