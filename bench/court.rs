@@ -1,5 +1,9 @@
 //! The court in Rust, by the same rules, for the programs that are compared with the proved ones.
 
+const TOP_SPEED: i32 = 6144;
+
+const LONGEST_STEP: u32 = 768;
+
 #[derive(Clone, Copy)]
 pub struct Ball {
     pub x: i32,
@@ -50,8 +54,8 @@ impl Paddle {
 }
 
 impl Ball {
-    fn moved(self) -> Ball {
-        let (x, y) = (self.x + self.dx, self.y + self.dy);
+    fn moved(self, by_x: i32, by_y: i32) -> Ball {
+        let (x, y) = (self.x + by_x, self.y + by_y);
         if y < 512 {
             Ball { x, y: 512, dy: self.dy.abs(), ..self }
         } else if y > 30208 {
@@ -69,12 +73,12 @@ impl Ball {
         Ball {
             x: p.x + inward(side, 1024),
             y: self.y,
-            dx: inward(side, (self.dx.abs() + 32).min(1536)),
-            dy: (self.dy + (self.y - p.y) / 16).clamp(-1536, 1536),
+            dx: inward(side, (self.dx.abs() + 32).min(TOP_SPEED)),
+            dy: (self.dy + (self.y - p.y) / 16).clamp(-TOP_SPEED, TOP_SPEED),
         }
     }
 
-    /// Both paddles look at the ball as it has moved.
+    /// Both paddles look at the ball as it has moved; `before` is the ball before the step.
     fn met(self, left: Paddle, right: Paddle, before: Ball) -> Ball {
         if self.meets(left) {
             if self.meets(right) {
@@ -87,6 +91,27 @@ impl Ball {
         } else {
             self
         }
+    }
+
+    fn stepped(self, by_x: i32, by_y: i32, left: Paddle, right: Paddle) -> Ball {
+        self.moved(by_x, by_y).met(left, right, self)
+    }
+
+    /// All steps of a frame. One step is as long as the velocity.
+    fn flown(self, left: Paddle, right: Paddle) -> Ball {
+        let count = self.dx.abs().max(self.dy.abs()).unsigned_abs().div_ceil(LONGEST_STEP).max(1);
+        if count == 1 {
+            return self.stepped(self.dx, self.dy, left, right);
+        }
+        let length = |total: i32, i: u32| {
+            let total = total.unsigned_abs();
+            (total / count + u32::from(i < total % count)) as i32
+        };
+        (0..count).fold(self, |ball, i| {
+            let by_x = ball.dx.signum() * length(self.dx, i);
+            let by_y = ball.dy.signum() * length(self.dy, i);
+            ball.stepped(by_x, by_y, left, right)
+        })
     }
 }
 
@@ -129,7 +154,7 @@ impl State {
             self.wait -= 1;
             return;
         }
-        self.ball = self.ball.moved().met(self.left, self.right, self.ball);
+        self.ball = self.ball.flown(self.left, self.right);
         if self.ball.x < 512 {
             self.meet_end(Side::Left);
         } else if self.ball.x > 40448 {

@@ -1,7 +1,9 @@
 //! The plain game in Rust, for comparison with the proved one: the same file, the same line of output.
 //!
-//!     plain FILE        plays FILE and prints the state after the last frame
-//!     plain make FILE   writes a file of a million frames in which nobody scores, so that every frame is played
+//!     plain FILE                 plays FILE and prints the state after the last frame
+//!     plain make SPEED FILE      writes a file of a million frames in which nobody scores, so that every frame is played, and in
+//!                                which the ball is no faster than SPEED in x and in y after each 500th: 768 for frames of one
+//!                                step, 6144 for frames of up to eight
 
 mod court;
 
@@ -17,8 +19,8 @@ fn play(frames: &[u8]) -> State {
 }
 
 /// Both paddles follow the ball, with noise. A stretch of frames in which somebody scores is played anew with other noise,
-/// and where that does not help the stretches before it too.
-fn make() -> Vec<u8> {
+/// and where that does not help the stretches before it too; so is one after which the ball is too fast.
+fn make(speed: i32) -> Vec<u8> {
     let mut seed = 1u32;
     let mut random = move || {
         seed = seed.wrapping_mul(1664525).wrapping_add(1013904223);
@@ -39,7 +41,8 @@ fn make() -> Vec<u8> {
                 s.advance(a, b);
                 frames.push(a | b << 4);
             }
-            (s.score == from.score).then_some((s, frames))
+            let slow = s.ball.dx.abs() <= speed && s.ball.dy.abs() <= speed;
+            (s.score == from.score && slow).then_some((s, frames))
         });
         match found {
             Some(stretch) => stretches.push(stretch),
@@ -52,7 +55,10 @@ fn make() -> Vec<u8> {
 fn main() -> ExitCode {
     let args: Vec<String> = env::args().skip(1).collect();
     match args.iter().map(String::as_str).collect::<Vec<_>>()[..] {
-        ["make", path] => fs::write(path, make()).expect("the file is written"),
+        ["make", speed, path] => {
+            let frames = make(speed.parse().expect("SPEED is a number"));
+            fs::write(path, frames).expect("the file is written")
+        }
         [path] => {
             let frames = fs::read(path).expect("the file is read");
             let s = play(&frames);
@@ -61,7 +67,7 @@ fn main() -> ExitCode {
             println!("points {} {} wait {}", s.score[0], s.score[1], s.wait);
         }
         _ => {
-            eprintln!("usage: plain FILE | plain make FILE");
+            eprintln!("usage: plain FILE | plain make SPEED FILE");
             return ExitCode::FAILURE;
         }
     }

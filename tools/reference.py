@@ -16,6 +16,11 @@ import re
 import sys
 
 MOST = 1_000_000
+
+# The largest velocity, and the longest step of a ball, in x and in y.
+TOP_SPEED = 6144
+LONGEST_STEP = 768
+
 USAGE = {
     "plain": "usage: plain FILE [show]",
     "play": "usage: play SEAT N FILE [show] [letters OUT] [record OUT]",
@@ -31,6 +36,10 @@ LINES = [b"".join(b"|" if i in (79, 80) or (i in (0, 159) and (j < 40 or j > 79)
 
 def clamp(lo, hi, a):
     return max(lo, min(hi, a))
+
+
+def sign(a):
+    return (a > 0) - (a < 0)
 
 
 def toward_zero(a, b):
@@ -65,17 +74,32 @@ class State:
         px, py = self.paddles[seat]
         way = 1 if seat == 0 else -1
         self.x = px + 1024 * way
-        self.dx = way * min(1536, abs(self.dx) + 32)
-        self.dy = clamp(-1536, 1536, self.dy + toward_zero(self.y - py, 16))
+        self.dx = way * min(TOP_SPEED, abs(self.dx) + 32)
+        self.dy = clamp(-TOP_SPEED, TOP_SPEED, self.dy + toward_zero(self.y - py, 16))
 
     def meet_paddles(self, before):
-        """Both paddles look at the same ball, which lay at `before` when the frame began."""
+        """Both paddles look at the same ball, which lay at `before` when the step began."""
         met = [seat for seat in (0, 1) if self.meets(seat)]
         if len(met) == 2:
             self.dx = -self.dx
             self.x, self.y = before
         elif met:
             self.strike(met[0])
+
+    def steps(self):
+        """How far each step of a frame goes in x and in y, by the velocity at its beginning."""
+        n = max(1, -(-max(abs(self.dx), abs(self.dy)) // LONGEST_STEP))
+        return [[abs(d) // n + (i < abs(d) % n) for d in (self.dx, self.dy)] for i in range(n)]
+
+    def step(self, far_x, far_y):
+        before = self.x, self.y
+        self.x += sign(self.dx) * far_x
+        self.y += sign(self.dy) * far_y
+        if self.y < 512:
+            self.y, self.dy = 512, abs(self.dy)
+        elif self.y > 30208:
+            self.y, self.dy = 30208, -abs(self.dy)
+        self.meet_paddles(before)
 
     def end(self):
         if 512 <= self.x <= 40448:
@@ -100,14 +124,8 @@ class State:
         if self.wait:
             self.wait -= 1
             return
-        before = self.x, self.y
-        self.x += self.dx
-        self.y += self.dy
-        if self.y < 512:
-            self.y, self.dy = 512, abs(self.dy)
-        elif self.y > 30208:
-            self.y, self.dy = 30208, -abs(self.dy)
-        self.meet_paddles(before)
+        for far_x, far_y in self.steps():
+            self.step(far_x, far_y)
         self.end()
 
     def line(self, frames):

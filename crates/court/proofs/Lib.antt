@@ -5,3 +5,4 @@ pub mod Stays
 pub mod Ranges
 pub mod FormerRuleLemmas
 pub mod Heard
+pub mod PassingLemmas

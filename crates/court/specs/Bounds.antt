@@ -10,9 +10,15 @@ use Rattle.court.specs.Frame.{court_width, court_height, ball_half, paddle_half_
 abbrev pub Within : ℤ → ℤ → ℤ → Type 0
 Within lo hi a = (lo ≤ℤ a) × (a ≤ℤ hi)
 
+-- how far k steps go at most
+abbrev pub most_flown : ℕ → ℤ
+most_flown k = pos (longest_step * k)
+
 -- a ball after k steps of a frame: its x may be past an end, by as much as k steps go
 pub record Flying (k : ℕ) (b : Ball) : Type 0 where
-  pub x : Within (ball_half -ℤ pos (longest_step * k)) (court_width -ℤ ball_half +ℤ pos (longest_step * k)) b.x
+  pub x :
+      Within (ball_half -ℤ pos (longest_step * k)) (court_width -ℤ ball_half +ℤ pos (longest_step * k))
+      b.x
   pub y : Within ball_half (court_height -ℤ ball_half) b.y
   pub dx : Within (neg_ℤ top_speed) top_speed b.dx
   pub dy : Within (neg_ℤ top_speed) top_speed b.dy
@@ -36,8 +42,8 @@ abbrev pub InHalf : Side → Paddle → Type 0
 InHalf Left p = PaddleIn paddle_half_x left_most p
 InHalf Right p = PaddleIn right_least (court_width -ℤ paddle_half_x) p
 
--- ball and paddles are whole in the court, the paddles in their halves, nothing is faster than may be,
--- nobody has more than nine points, and the wait is at most 60
+-- ball and paddles are whole in the court, the paddles in their halves, nothing is faster than may
+-- be, nobody has more than nine points, and the wait is at most 60
 pub record InCourt (s : State) : Type 0 where
   pub ball_in : BallIn s.ball
   pub left_in : PaddleIn paddle_half_x left_most s.left
@@ -67,7 +73,11 @@ ball_clamped b =
     }
 
 abbrev pub paddle_clamped : ℤ → ℤ → Paddle → Paddle
-paddle_clamped lo hi p = record { x = between lo hi p.x; y = between paddle_half_y (court_height -ℤ paddle_half_y) p.y }
+paddle_clamped lo hi p =
+    record {
+      x = between lo hi p.x;
+      y = between paddle_half_y (court_height -ℤ paddle_half_y) p.y;
+    }
 
 abbrev pub clamped_in : State → State
 clamped_in s =

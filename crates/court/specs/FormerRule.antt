@@ -1,5 +1,5 @@
--- The former step 4, and where a frame by it is another than a frame today. Assumes nothing: these are definitions, and
--- statements that are proved in proofs/.
+-- The former step 4, and where a frame by it is another than a frame today. Assumes nothing: these
+-- are definitions, and statements that are proved in proofs/.
 use Rattle.std.specs.Prelude.{◌≡◌, ℕ, ◌<◌, false, if◌then◌else◌, ◌&&◌, ◌||◌, Bool, [], ◌∷◌, pos, neg_ℤ, ℤ}
 use Rattle.std.specs.List.{AllByRecursion}
 use Rattle.court.specs.declared.state.Ball.{Ball}
@@ -12,17 +12,21 @@ use Rattle.court.specs.Frame.{PaddleRule, meets, struck, step_count, step_moved,
 abbrev pub struck_where_met : Side → Paddle → Ball → Ball
 struck_where_met side p b = if meets b p then struck side p b else b
 
--- the former rule: the left paddle strikes the ball, and then the right one what the left one made of it
+-- the former rule: the left paddle strikes the ball, and then the right one what the left one made
+-- of it
 unfoldable pub one_after_the_other : PaddleRule
 one_after_the_other l r before moved = struck_where_met Right r (struck_where_met Left l moved)
 
--- the left paddle meets the ball as step 3 left it, and so does the right one, or it meets the ball that the left one struck
+-- the left paddle meets the ball as step 3 left it, and so does the right one, or it meets the ball
+-- that the left one struck
 abbrev pub both_met : Paddle → Paddle → Ball → Bool
 both_met l r moved = meets moved l && (meets moved r || meets (struck Left l moved) r)
 
 -- so it is in a step of a frame, by the state after the paddles have moved and the steps before it
 abbrev pub both_met_at : State → ℕ → Bool
-both_met_at s k = both_met s.left s.right (step_moved s.ball k (after_steps both_at_once s.left s.right s.ball k))
+both_met_at s k =
+    both_met s.left s.right
+    (step_moved s.ball k (after_steps both_at_once s.left s.right s.ball k))
 
 -- a frame in which that happens in no step is the same by both rules
 abbrev pub SameUnlessBothMet : Type 0

@@ -1,5 +1,6 @@
-// Steps 3 and 4 of a frame: the ball moves by its velocity and turns round at the walls, and the paddles that meet it send it back.
-ghost use Rattle.std.specs.Prelude.{◌≡◌, ◌+◌, ◌*◌, ◌<◌, ◌≤◌, pos, neg_ℤ};
+// Steps 3 and 4 of a frame: the ball moves by its velocity and turns round at the walls, and the
+// paddles that meet it send it back.
+ghost use Rattle.std.specs.Prelude.{◌≡◌, ◌+◌, ◌^◌, ◌<◌, ◌≤◌, pos, neg_ℤ};
 ghost use Rattle.court.specs.Bounds.{Within, Flying, BallIn, OnCourt, InHalf};
 ghost use Rattle.court.specs.declared.state.Side.TheVariants.{Left, Right};
 ghost use Rattle.court.specs.Frame.{top_speed, longest_step, most_steps, step_count, step_length, step_moved, along, after_steps};
@@ -13,13 +14,15 @@ use crate::{BALL_HALF, PADDLE_HALF_X, PADDLE_HALF_Y, TOP_SPEED};
 
 const GAIN: i32 = 32;
 
-// How far a ball goes in one step, in x and in y, at most: less than a paddle's reach, so that it passes through none.
+// How far a ball goes in one step, in x and in y, at most: less than a paddle's reach, so that it
+// passes through none.
 const LONGEST_STEP: u32 = 768;
 
 // As many steps as the fastest ball takes in a frame.
 const MOST_STEPS: u32 = TOP_SPEED as u32 / LONGEST_STEP;
 
-// How near the middles of a ball and a paddle are where they touch. In a constant stands no call, so a cast.
+// How near the middles of a ball and a paddle are where they touch. In a constant stands no call,
+// so a cast.
 const REACH_X: u32 = (PADDLE_HALF_X + BALL_HALF) as u32;
 
 const REACH_Y: u32 = (PADDLE_HALF_Y + BALL_HALF) as u32;
@@ -67,7 +70,8 @@ fn count_steps(first: Ball) -> u32
 // The length of step i of so many that are `total` long together.
 #[tactic(auto, unfolding(crate::specs::Frame::step_length))]
 fn length_of_step(total: u32, count: u32, i: u32) -> u32
-    requires { 0 < count }
+    requires some { 0 < count }
+    requires fits { total ≤ 2 ^ 31 }
     ensures { result ≡ step_length total count i }
 {
     total / count + u32::from(i < total % count)
@@ -225,8 +229,11 @@ impl FlyingBall {
         requires y { Within (neg_ℤ (pos longest_step)) (pos longest_step) by_y }
         requires left_half { InHalf Left left }
         requires right_half { InHalf Right right }
-        ensures ball { result.heard.ball ≡ both_at_once left right self.heard.ball (ball_moved by_x by_y self.heard.ball) }
-        ensures cue { result.heard.cue ≡ paddles_heard left right (ball_moved by_x by_y self.heard.ball) (wall_heard by_y self.heard.ball self.heard.cue) }
+        ensures ball { result.heard.ball
+            ≡ both_at_once left right self.heard.ball (ball_moved by_x by_y self.heard.ball) }
+        ensures cue { result.heard.cue
+            ≡ paddles_heard left right (ball_moved by_x by_y self.heard.ball)
+            (wall_heard by_y self.heard.ball self.heard.cue) }
         ensures steps { result.steps ≡ self.steps + 1 }
     {
         let moved = move_ball(self.heard, by_x, by_y);
@@ -242,7 +249,8 @@ impl FlyingBall {
         requires counted { count ≡ step_count first }
         requires left_half { InHalf Left left }
         requires right_half { InHalf Right right }
-        ensures ball { result.heard.ball ≡ both_at_once left right self.heard.ball (step_moved first i self.heard.ball) }
+        ensures ball { result.heard.ball
+            ≡ both_at_once left right self.heard.ball (step_moved first i self.heard.ball) }
         ensures cue { result.heard.cue ≡ step_heard left right first i self.heard.ball self.heard.cue }
         ensures steps { result.steps ≡ self.steps + 1 }
     {

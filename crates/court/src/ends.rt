@@ -39,7 +39,8 @@ fn award(out: Side, score: Score) -> Score
     }
 }
 
-// The ball as it is served after a point: toward the seat that won it, down where the points together are even, else up.
+// The ball as it is served after a point: toward the seat that won it, down where the points
+// together are even, else up.
 fn serve(out: Side, score: Score) -> Ball
     requires { (score.left ≤ 9) × (score.right ≤ 9) }
     ensures { result ≡ serve_ball out score }

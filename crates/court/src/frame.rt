@@ -49,7 +49,8 @@ impl Court {
         }
     }
 
-    /// The paddles go; then the wait falls by one, or where there is none the ball is played. A game that is over stays as it is.
+    /// The paddles go; then the wait falls by one, or where there is none the ball is played. A game
+    /// that is over stays as it is.
     pub fn frame(self, left: Input, right: Input) -> Frame
         ensures value { result.court.state ≡ advanced self.state left.0 right.0 }
         ensures cue { result.cue ≡ cue_of self.state left.0 right.0 }

@@ -17,7 +17,7 @@ court_lawful =
     record {
       begins = record { court_in = start_in; tone_in = silence_in };
       goes_on = λ s a b h.
-      record { court_in = advanced_in s.court a b h.court_in; tone_in = tone_after_in s.tone (cue_of s.court a b) };
+          record { court_in = advanced_in s.court a b h.court_in; tone_in = tone_after_in s.tone (cue_of s.court a b) };
       long = λ s. refl;
       narrow = λ a h. leb-true a 15 h;
     }

@@ -1,6 +1,8 @@
 // Theorems about the plain game of the court, each on the contract of a function.
 ghost use Rattle.court.specs.declared.state.State.{State};
+ghost use Rattle.court.specs.Passing.{StepsAreShort, FastBallIsSentBack};
 ghost use Rattle.court_game.specs.Games.{StaysIn, RestsAtNine, GamesComeOut};
+ghost use Rattle.court_game.specs.Passing.{NoBallPasses, MomentsAreOfTheGame};
 ghost use Rattle.court_game.specs.Sounding.{CourtIsCourtGame};
 ghost use Rattle.game.specs.Plain.{FromSaved};
 
@@ -30,4 +32,14 @@ pub fn games_come_out()
 #[tactic(auto, using(crate::proofs::Tones::court_is_court_game))]
 pub fn court_is_court_game()
     ensures { CourtIsCourtGame }
+{}
+
+/// No ball passes through a paddle, whatever the inputs. From each moment of a game to the next the ball's middle gets from one
+/// side of a paddle to the other, between the paddle's ends, only where that paddle meets it, or an end or a serve puts it there.
+#[tactic(auto, using(court::proofs::PassingLemmas::steps_are_short, court::proofs::PassingLemmas::fast_ball_is_sent_back, crate::proofs::PassingLemmas::no_ball_passes, crate::proofs::PassingLemmas::moments_are_of_the_game))]
+pub fn no_ball_passes()
+    ensures steps { StepsAreShort }
+    ensures passes { NoBallPasses }
+    ensures moments { MomentsAreOfTheGame }
+    ensures example { FastBallIsSentBack }
 {}

@@ -54,7 +54,7 @@ fn reach_of_paddles(rt: HostRuntime) {
     check_ball(&rt, (37377, 15360, 512, 0), (37888, 15360, -544, 0));
 }
 
-// Where both paddles meet the ball, it turns round in x and lies where it was, also beside a wall; where the left one alone does,
+// Where both paddles meet the ball, it turns round in x and lies where it was before the step, also beside a wall; where the left one alone does,
 // the right one does not look at the ball that was struck.
 #[test]
 fn both_paddles(rt: HostRuntime) {
@@ -64,8 +64,8 @@ fn both_paddles(rt: HostRuntime) {
         &rt,
         left,
         right,
-        (20004, 11274, 515, 1419),
-        (20004, 11274, -515, 1419),
+        (20004, 11274, 515, 700),
+        (20004, 11274, -515, 700),
     );
     let left = Paddle { x: 19968, y: 2048 };
     let right = Paddle { x: 20992, y: 2048 };
@@ -94,8 +94,48 @@ fn bend_and_speed(rt: HostRuntime) {
     check_ball(&rt, (3583, 15344, -512, 0), (3072, 15344, 544, -1));
     check_ball(&rt, (3583, 15375, -512, 0), (3072, 15375, 544, 0));
     check_ball(&rt, (3583, 15376, -512, 0), (3072, 15376, 544, 1));
-    check_ball(&rt, (3583, 15860, -1503, 1500), (3072, 17360, 1535, 1536));
-    check_ball(&rt, (3583, 14860, -1505, -1500), (3072, 13360, 1536, -1536));
+    check_ball(&rt, (3583, 15860, -767, 700), (3072, 16560, 799, 775));
+    check_ball(&rt, (3583, 15360, -6111, 0), (8419, 15360, 6143, 0));
+    check_ball(&rt, (3583, 15360, -6113, 6144), (8420, 21504, 6144, 6144));
+    check_ball(&rt, (3583, 14860, -6144, -6130), (8448, 8730, 6144, -6144));
+}
+
+// A frame has as few steps as keep each at most 768. Where the velocity does not divide, the first ones are one longer, so that a
+// paddle or a wall in the middle of a frame finds the ball at just one place.
+#[test]
+fn steps(rt: HostRuntime) {
+    check_ball(&rt, (20480, 15360, 768, -768), (21248, 14592, 768, -768));
+    check_ball(&rt, (20480, 15360, 769, -1537), (21249, 13823, 769, -1537));
+    check_ball(&rt, (20480, 15360, 6143, -1), (26623, 15359, 6143, -1));
+    check_ball(&rt, (20480, 15360, 6144, 6144), (26624, 21504, 6144, 6144));
+    check_ball(&rt, (20480, 15360, 0, -6144), (20480, 9216, 0, -6144));
+    check_ball(&rt, (37888, 15360, 2, 1537), (37887, 16897, -34, 1569));
+}
+
+// What turns the ball in the middle of a frame turns the rest of the frame round; where a velocity has become 0, the rest stands still.
+#[test]
+fn turns_in_the_middle(rt: HostRuntime) {
+    check_ball(&rt, (20480, 2000, -3000, -3000), (17480, 2012, -3000, 3000));
+    check_ball(&rt, (3600, 15360, -1536, 1536), (3840, 16896, 1568, 1584));
+    check_ball(&rt, (36000, 15360, 6144, 0), (34048, 15360, -6144, 0));
+    check_ball(&rt, (3700, 15410, -1500, -3), (3822, 15408, 1532, 0));
+}
+
+// The ends are looked at once, after the last step.
+#[test]
+fn ends_once(rt: HostRuntime) {
+    check_ball(
+        &rt,
+        (39944, 11706, 1123, -1500),
+        (40448, 10206, -1123, -1500),
+    );
+    check_ball(
+        &rt,
+        (37000, 30000, 6144, 3000),
+        (40448, 27583, -6144, -3000),
+    );
+    check_ball(&rt, (39700, 20000, 6144, 6000), (40448, 26000, -6144, 6000));
+    check_ball(&rt, (700, 25000, -6144, 6144), (512, 29440, 6144, -6144));
 }
 
 #[test]

@@ -1,9 +1,9 @@
 -- How long tones last. Assumes nothing.
-use Rattle.std.proofs.Common.{◌≡◌, ◌≢◌, ℕ, zero, suc, ◌+◌, ◌<◌, ◌≤◌, cond, ltb, replicate, inl, inr, refl, sym, ap, ◌∙◌, arith}
+use Rattle.std.proofs.Common.{◌≡◌, ℕ, zero, suc, ◌+◌, ◌<◌, ◌≤◌, cond, replicate, inl, inr, refl, ap, ◌∙◌, arith}
 use Rattle.std.proofs.lemmas.Bool.{cases_lt, le-ltb, lt-ltb}
 use Rattle.court.specs.declared.cue.Cue.{Cue}
 use Rattle.court.specs.declared.cue.Cue.TheVariants.{Nothing, Paddle, Wall, Point}
-use Rattle.sound.specs.Tones.{Sounding, silence, frames_of, tone_after, tone_after_all, tone_continued, NewestCounts, Lasts, Ends, StaysSilent}
+use Rattle.sound.specs.Tones.{Sounding, silence, frames_of, tone_after_all, tone_continued, Lasts, Ends, StaysSilent}
 
 -- a frame more of a tone that is not over by then
 pub one_more : (k : Cue) (d : ℕ) → d + 1 < frames_of k → tone_continued (record { kind = k; age = d }) ≡ record { kind = k; age = d + 1 }

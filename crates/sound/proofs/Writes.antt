@@ -1,9 +1,11 @@
 -- Samples written one behind the other. Assumes nothing.
-use Rattle.std.proofs.Common.{◌≡◌, ℕ, zero, suc, ◌+◌, ◌*◌, List, [], ◌∷◌, ◌++◌, length, drop, ℤ, sym, refl, ap, ◌∙◌, append_assoc, add-zero, add-one, arith}
+use Rattle.std.proofs.Common.{◌≡◌, ℕ, zero, suc, ◌+◌, ◌*◌, ◌<◌, List, [], ◌∷◌, ◌++◌, length, get_or, drop, ℤ, pos, sym, refl, ap, ◌∙◌, append_assoc, add-zero, arith}
 use borrow.Rule.Slice.PartMut.{put_mid}
 use Rattle.std.proofs.lemmas.List.{append-nil, length-append, take_at, drop_at, drop-drop}
 use Rattle.court.specs.declared.cue.Cue.{Cue}
-use Rattle.sound.specs.Sound.{bytes_of, sample_bytes, samples_from, tone_sample, frame_samples, Whole}
+use Rattle.sound.specs.Sound.{bytes_of, sample_bytes, samples_from, tone_sample, frame_samples, samples_of, sound_after, sound_of, SamplesInPlace, Whole, FrameByFrame}
+use Rattle.sound.specs.Tones.{Sounding, silence, tone_after, tones_of}
+use Rattle.sound.specs.Wav.{wav_header_of, LengthsAreTold}
 
 pub length_samples : (k : Cue) (i n : ℕ) → length (samples_from k i n) ≡ n
 unfolding samples_from
@@ -67,7 +69,39 @@ joins k e ys i j h =
     ∙ sym (append_assoc front (sample_bytes (tone_sample k (i + j))) (drop (2 * (j + 1)) e))
     ∙ ap (λ l. l ++ drop (2 * (j + 1)) e) (sym (bytes_next k i j))
 
+sample_at : (k : Cue) (i n j : ℕ) → j < n → get_or (samples_from k i n) j (pos 0) ≡ tone_sample k (i + j)
+unfolding samples_from
+sample_at k i zero j h = let no : ⊥ = omega arith in absurd no
+sample_at k i (suc n) zero h = ap (tone_sample k) (sym (add-zero i))
+sample_at k i (suc n) (suc j) h = let l : j < n = omega arith in let e : suc i + j ≡ i + suc j = omega arith in sample_at k (suc i) n j l ∙ ap (tone_sample k) e
+
+pub in_place : SamplesInPlace
+unfolding frame_samples
+in_place t j h = sample_at t.kind (800 * t.age) 800 j h
+
 pub whole : Whole
 unfolding frame_samples
 whole t =
     (length_samples t.kind (800 * t.age) 800, length_bytes (samples_from t.kind (800 * t.age) 800) ∙ ap (λ q. 2 * q) (length_samples t.kind (800 * t.age) 800))
+
+pub frame_by_frame : FrameByFrame
+frame_by_frame t c cs = bytes_more (frame_samples (tone_after t c)) (samples_of (tones_of (tone_after t c) cs))
+
+-- ---- lengths
+
+length_sound : (t : Sounding) (cs : List Cue) → length (sound_after t cs) ≡ 800 * length cs
+length_sound t [] = refl
+length_sound t (c ∷ cs) =
+    let a = length-append (frame_samples (tone_after t c)) (samples_of (tones_of (tone_after t c) cs)) in
+    let b = (whole (tone_after t c)).0 in
+    let d = length_sound (tone_after t c) cs in
+    omega arith
+
+pub lengths_are_told : LengthsAreTold
+lengths_are_told cues =
+    let d : length (bytes_of (sound_of cues)) ≡ 1600 * length cues = length_bytes (sound_of cues) ∙ ap (λ q. 2 * q) (length_sound silence cues) ∙ omega arith in
+    record {
+      header = refl;
+      data_told = d;
+      riff_told = length-append (wav_header_of (length cues)) (bytes_of (sound_of cues)) ∙ ap (λ q. 44 + q) d ∙ omega arith;
+    }

@@ -13,4 +13,5 @@ refusal_place TooShort = 6
 
 -- as people are told: "refused 5 at 6"
 abbrev pub refusal_text : Refused → List ℕ
-refusal_text f = codes "refused " ++ decimal (refusal_number f) ++ codes " at " ++ decimal (refusal_place f)
+refusal_text f =
+    codes "refused " ++ decimal (refusal_number f) ++ codes " at " ++ decimal (refusal_place f)

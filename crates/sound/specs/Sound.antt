@@ -1,10 +1,10 @@
 -- Samples: 48,000 a second, 800 in each frame, in 16 bits with a sign. Assumes nothing: these are definitions, and statements that are
 -- proved in proofs/.
-use Rattle.std.specs.Prelude.{◌≡◌, ◌≢◌, ℕ, zero, suc, ◌+◌, ◌-◌, ◌*◌, ◌/◌, ◌%◌, if◌then◌else◌, List, [], ◌∷◌, ◌++◌, ◌==◌, fold, replicate, ℤ, pos, neg_ℤ, ◌+ℤ◌, length}
+use Rattle.std.specs.Prelude.{◌≡◌, ◌≢◌, ℕ, zero, suc, ◌+◌, ◌-◌, ◌*◌, ◌/◌, ◌%◌, ◌<◌, if◌then◌else◌, List, [], ◌∷◌, ◌++◌, ◌==◌, fold, replicate, ℤ, pos, neg_ℤ, ◌+ℤ◌, length, slice_index_or}
 use Rattle.std.specs.Int.{w16, cast_unsigned, to_le_bytes}
 use Rattle.court.specs.declared.cue.Cue.{Cue}
-use Rattle.court.specs.declared.cue.Cue.TheVariants.{Nothing, Paddle, Wall, Point}
-use Rattle.sound.specs.Tones.{Sounding, silence, frames_of, turns_of, tones_of}
+use Rattle.court.specs.declared.cue.Cue.TheVariants.{Nothing}
+use Rattle.sound.specs.Tones.{Sounding, silence, frames_of, turns_of, tone_after, tones_of}
 
 -- samples a second, and in a frame, of which a second has 60
 abbrev pub sample_rate : ℕ
@@ -72,7 +72,18 @@ abbrev pub SumsToZero : Type 0
 SumsToZero = (t : Sounding) (k : Cue) → k ≢ Nothing →
     fold ◌+ℤ◌ (pos 0) (sound_after t (k ∷ replicate (frames_of k - 1) Nothing)) ≡ pos 0
 
--- every frame has as many samples, and two bytes for each
+-- every sample of a frame has its place
+abbrev pub SamplesInPlace : Type 0
+SamplesInPlace = (t : Sounding) (j : ℕ) → j < frame_length →
+    slice_index_or (frame_samples t) j (pos 0) ≡ sample_of t j
+
+-- and there are no others; each has two bytes
 abbrev pub Whole : Type 0
 Whole = (t : Sounding) →
     (length (frame_samples t) ≡ frame_length) × (length (sound_bytes t) ≡ 2 * frame_length)
+
+-- the sound of many frames is that of the first, and then of the others, from the first one's tone on
+abbrev pub FrameByFrame : Type 0
+FrameByFrame = (t : Sounding) (c : Cue) (cs : List Cue) →
+    bytes_of (sound_after t (c ∷ cs)) ≡
+    sound_bytes (tone_after t c) ++ bytes_of (sound_after (tone_after t c) cs)

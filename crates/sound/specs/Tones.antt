@@ -45,7 +45,9 @@ tone_begun k = record { kind = k; age = 0 }
 -- one frame later, where it is not over by then
 abbrev pub tone_continued : Sounding → Sounding
 tone_continued t =
-    if nat_lt (t.age + 1) (frames_of t.kind) then record { kind = t.kind; age = t.age + 1 } else silence
+    if nat_lt (t.age + 1) (frames_of t.kind)
+    then record { kind = t.kind; age = t.age + 1 }
+    else silence
 
 -- what sounds after a frame that gives a cue: a cue begins a tone, whatever sounded before
 abbrev pub tone_after : Sounding → Cue → Sounding
@@ -72,7 +74,8 @@ code_of Point = 3
 
 -- a number above 3 is read as nothing
 abbrev pub kind_of : ℕ → Cue
-kind_of n = if n == 1 then Paddle else (if n == 2 then Wall else (if n == 3 then Point else Nothing))
+kind_of n =
+    if n == 1 then Paddle else (if n == 2 then Wall else (if n == 3 then Point else Nothing))
 
 -- a tone in two bytes
 abbrev pub tone_bytes : Sounding → List ℕ
@@ -104,3 +107,14 @@ Ends = (t : Sounding) (k : Cue) (n : ℕ) → k ≢ Nothing → frames_of k ≤ 
 -- with no cue silence stays
 abbrev pub StaysSilent : Type 0
 StaysSilent = (n : ℕ) → tone_after_all silence (replicate n Nothing) ≡ silence
+
+-- a tone in range stays so, and what two bytes say is in range
+abbrev pub StaysInRange : Type 0
+StaysInRange = (t : Sounding) (k : Cue) → IsInRange t → IsInRange (tone_after t k)
+
+abbrev pub ReadInRange : Type 0
+ReadInRange = (bytes : List ℕ) → IsInRange (tone_said bytes)
+
+-- the bytes of a tone say that tone
+abbrev pub ComesBack : Type 0
+ComesBack = (t : Sounding) → IsInRange t → tone_said (tone_bytes t) ≡ t

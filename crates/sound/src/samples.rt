@@ -1,7 +1,7 @@
 // A frame's samples, written into lent memory.
 ghost use Rattle.std.specs.Prelude.{◌≡◌, ◌+◌, ◌*◌, ◌/◌, ◌^◌, ◌<◌, ◌≤◌, ◌++◌, length, drop, if◌then◌else◌, Ok, Err, Some, nat_le};
 ghost use Rattle.sound.specs.Refusals.{refusal_number, refusal_place, refusal_text};
-ghost use Rattle.sound.specs.Sound.{level_of, sample_of, sound_bytes};
+ghost use Rattle.sound.specs.Sound.{level_of, sample_bytes, sample_of, sound_bytes};
 ghost use Rattle.sound.specs.Sounding.{sounding};
 ghost use Rattle.sound.specs.Tones.{turns_of};
 
@@ -77,9 +77,18 @@ fn sample(tone: Tone, j: usize) -> i16
     }
 }
 
+// The same in bytes.
+fn sample_in_bytes(tone: Tone, j: usize) -> [u8; SAMPLE_BYTES]
+    requires { j < SAMPLES_PER_FRAME }
+    ensures { result ≡ sample_bytes (sample_of (sounding tone) j) }
+{
+    sample(tone, j).to_le_bytes()
+}
+
 /// Writes a frame's samples over the first bytes of `part`, and leaves those after them. A shorter slice is refused and stays as it was.
 pub fn write_samples(tone: Tone, part: &mut [u8]) -> Result<(), Refused>
-    ensures value { result ≡ (if nat_le FRAME_BYTES (length part.old) then Ok tt else Err Refused.TooShort) }
+    ensures value { result ≡
+        (if nat_le FRAME_BYTES (length part.old) then Ok tt else Err Refused.TooShort) }
     ensures samples { part.new ≡
         (if nat_le FRAME_BYTES (length part.old)
         then sound_bytes (sounding tone) ++ drop FRAME_BYTES part.old
@@ -90,7 +99,7 @@ pub fn write_samples(tone: Tone, part: &mut [u8]) -> Result<(), Refused>
     }
     for j in 0..SAMPLES_PER_FRAME {
         let at = SAMPLE_BYTES * j;
-        part[at..at + SAMPLE_BYTES].copy_from_slice(&sample(tone, j).to_le_bytes());
+        part[at..at + SAMPLE_BYTES].copy_from_slice(&sample_in_bytes(tone, j));
     }
     Ok(())
 }

@@ -1,8 +1,7 @@
-use Rattle.std.proofs.Common.{◌≡◌, ℕ, ◌+◌, ◌-◌, ◌*◌, ◌≤◌, true, leb, ◌++◌, length, drop, sym, ap, ◌∙◌, arith, rules, SFits, w16}
-use Rattle.std.proofs.lemmas.Int.{to_z-of_z}
+use Rattle.std.proofs.Common.{◌≡◌, ℕ, ◌+◌, ◌-◌, ◌*◌, ◌≤◌, true, leb, ◌++◌, length, drop, sym, ap, ◌∙◌, arith}
 use borrow.Rule.Slice.PartMut.{put_mid}
 use Rattle.std.proofs.lemmas.Bool.{le-leb}
-use Rattle.sound.specs.Sound.{bytes_of, sample_bytes, samples_from, frame_samples}
+use Rattle.sound.specs.Sound.{bytes_of, samples_from, frame_samples}
 use Rattle.sound.proofs.Writes.{joins, bytes_none}
 use Rattle.sound.proofs.samples.write_samples.Goals as goal
 
@@ -11,12 +10,11 @@ loop-j-init c = ap (λ l. l ++ c.args.part.now) (sym (bytes_none c.args.tone.kin
 
 pub loop-j-preserved : goal.loop-j-preserved
 loop-j-preserved c =
-    let f : SFits w16 c.sample.result = search rules in
-    let b : c.copy_from_slice.new.self ≡ sample_bytes c.sample.result = c.copy_from_slice.ensures.after ∙ simp to_z-of_z at c.to_le_bytes.ensures in
     let k : (2 * c.loop-j.j + 2) - 2 * c.loop-j.j ≡ 2 = omega arith in
     ap (λ q. put_mid (2 * c.loop-j.j) q c.loop-j.part c.copy_from_slice.new.self) k
     ∙ ap (λ l. put_mid (2 * c.loop-j.j) 2 l c.copy_from_slice.new.self) c.loop-j.invariant
-    ∙ joins c.args.tone.kind c.args.part.now c.copy_from_slice.new.self (800 * c.args.tone.age) c.loop-j.j (b ∙ ap sample_bytes c.sample.ensures)
+    ∙ joins c.args.tone.kind c.args.part.now c.copy_from_slice.new.self (800 * c.args.tone.age) c.loop-j.j
+    (c.copy_from_slice.ensures.after ∙ c.sample_in_bytes.ensures)
 
 pub returns-clause-samples : goal.returns-clause-samples
 unfolding frame_samples

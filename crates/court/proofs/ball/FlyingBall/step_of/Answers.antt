@@ -10,11 +10,11 @@ use Rattle.court.proofs.ball.FlyingBall.step_of.Goals as goal
 length_is : (result total count i d n : ℕ) → result ≡ step_length total count i → total ≡ d → count ≡ n → result ≡ step_length d n i
 length_is result total count i d n e f g = e ∙ ap (λ t. step_length t count i) f ∙ ap (λ k. step_length d k i) g
 
-pub length_of_step-by_x-requires : goal.length_of_step-by_x-requires
-length_of_step-by_x-requires c = subst (λ n. 0 < n) (sym c.requires.counted) (steps_some c.args.first)
+pub length_of_step-by_x-requires-clause-some : goal.length_of_step-by_x-requires-clause-some
+length_of_step-by_x-requires-clause-some c = subst (λ n. 0 < n) (sym c.requires.counted) (steps_some c.args.first)
 
-pub length_of_step-by_y-requires : goal.length_of_step-by_y-requires
-length_of_step-by_y-requires c = subst (λ n. 0 < n) (sym c.requires.counted) (steps_some c.args.first)
+pub length_of_step-by_y-requires-clause-some : goal.length_of_step-by_y-requires-clause-some
+length_of_step-by_y-requires-clause-some c = subst (λ n. 0 < n) (sym c.requires.counted) (steps_some c.args.first)
 
 pub directed-requires : goal.directed-requires
 directed-requires c =
