@@ -1,6 +1,6 @@
 // Single frames at the edges of the rules.
 use court::state::{Ball, Paddle, Score};
-use court::{Court, Input, State};
+use court::{Court, Cue, Input, State};
 use std::process::Abort;
 
 // A ball by its position and its velocity.
@@ -25,7 +25,7 @@ fn check_between(
     };
     let court = Court::clamped(state);
     assert_eq!(rt; court.state, state, "in the court");
-    assert_eq!(rt; court.frame(Input(0), Input(0)).state.ball, ball(to));
+    assert_eq!(rt; court.frame(Input(0), Input(0)).court.state.ball, ball(to));
 }
 
 // The same with the paddles at the start.
@@ -150,7 +150,7 @@ fn ends_and_goals(rt: HostRuntime) {
 
 // Where the left paddle is after a frame with an input, from the start.
 fn paddle_after(input: u8) -> (i32, i32) {
-    let p = Court::new().frame(Input(input), Input(0)).state.left;
+    let p = Court::new().frame(Input(input), Input(0)).court.state.left;
     (p.x, p.y)
 }
 
@@ -168,4 +168,31 @@ fn keys(rt: HostRuntime) {
         "both keys of a pair are as good as none"
     );
     assert_eq!(rt; paddle_after(12), (2048, 15360));
+}
+
+// What is heard of a frame in which nobody moves, with so many points for seat 0 and the left paddle at that height.
+fn check_cue(rt: &impl Abort, points: u8, y: i32, from: (i32, i32, i32, i32), cue: Cue) {
+    let state = State {
+        ball: ball(from),
+        left: Paddle { x: 2048, y },
+        right: Paddle { x: 38912, y: 15360 },
+        score: Score { left: points, right: 0 },
+        wait: 0,
+    };
+    assert_eq!(rt; Court::clamped(state).frame(Input(0), Input(0)).cue, cue);
+}
+
+// The last thing in a frame counts: first come the walls, then the paddles, then the ends.
+#[test]
+fn cues(rt: HostRuntime) {
+    check_cue(&rt, 0, 15360, (20000, 15360, 512, 256), Cue::Nothing);
+    check_cue(&rt, 0, 15360, (20000, 712, -300, -200), Cue::Nothing);
+    check_cue(&rt, 0, 15360, (20000, 711, -300, -200), Cue::Wall);
+    check_cue(&rt, 0, 15360, (3583, 15360, -512, 0), Cue::Paddle);
+    check_cue(&rt, 0, 2048, (3583, 711, -512, -200), Cue::Paddle);
+    check_cue(&rt, 0, 28672, (3583, 711, -512, -200), Cue::Wall);
+    check_cue(&rt, 0, 28672, (700, 15360, -512, 0), Cue::Point);
+    check_cue(&rt, 0, 28672, (700, 5000, -512, 0), Cue::Wall);
+    check_cue(&rt, 9, 28672, (700, 15360, -512, 0), Cue::Nothing);
+    assert_eq!(rt; Court::new().frame(Input(0), Input(0)).cue, Cue::Nothing);
 }

@@ -10,3 +10,4 @@ mod files;
 mod machine;
 #[cfg(test)]
 mod sessions;
+mod sounds;
