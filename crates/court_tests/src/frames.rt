@@ -176,7 +176,10 @@ fn check_cue(rt: &impl Abort, points: u8, y: i32, from: (i32, i32, i32, i32), cu
         ball: ball(from),
         left: Paddle { x: 2048, y },
         right: Paddle { x: 38912, y: 15360 },
-        score: Score { left: points, right: 0 },
+        score: Score {
+            left: points,
+            right: 0,
+        },
         wait: 0,
     };
     assert_eq!(rt; Court::clamped(state).frame(Input(0), Input(0)).cue, cue);

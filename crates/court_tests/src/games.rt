@@ -1,8 +1,8 @@
 // Whole games: inputs of both seats, and the state that they come to, worked out from the rules.
 use court::state::{Ball, Paddle, Score};
 use court::{Court, State};
-use court_game::sounding::CourtGame;
 use court_game::plain::{play, play_frames, play_on};
+use court_game::sounding::CourtGame;
 use game::rules::Game;
 use std::test::Fail;
 

@@ -108,3 +108,15 @@ fn refused(rt: HostRuntime) -> Result<(), Fail> {
     assert_eq!(rt; out, [9u8; 671]);
     Ok(())
 }
+
+// The tone that sounds in frame 600 is in the state after it: the left paddle went up, the right one down, and one of them met the ball
+// five frames before. It was worked out by another implementation of the rules.
+#[test]
+fn tone_is_saved(rt: HostRuntime) -> Result<(), Fail> {
+    let mut inputs = vec![in rt.alloc(); 4u8; INPUTS]?;
+    inputs[HALF..].fill(8);
+    let mut out = [9u8; 672];
+    assert_eq!(rt; write(&level(600), &inputs, &mut out), Ok(672));
+    assert_eq!(rt; &out[640..646], [1, 1, 0, 1, 5, 0].as_slice());
+    Ok(())
+}

@@ -1,7 +1,7 @@
 // Examples over the court.
 use crate::machine::Machine;
-use court_game::sounding::CourtGame;
 use court_game::plain::play;
+use court_game::sounding::CourtGame;
 use game::seat::Seat;
 use packet::Fault;
 use peer::Refusal;
@@ -94,14 +94,20 @@ fn joins(rt: HostRuntime) -> Result<(), Fail> {
 #[test]
 fn refused(rt: HostRuntime) -> Result<(), Fail> {
     let mut machine = Machine::begin::<CourtGame>(rt.alloc(), Seat::Left, 1, 128)?;
-    assert_eq!(rt; machine.tick::<CourtGame>(16), Outcome::Refused(Refusal::Input));
+    assert_eq!(rt;
+        machine.tick::<CourtGame>(16),
+        Outcome::Refused(Refusal::Input)
+    );
     let unmade = packet(0, 1, [1, 2, 3]);
     assert_eq!(rt;
         machine.receive::<CourtGame>(&unmade),
         Outcome::Refused(Refusal::Packet(Fault::Unmade))
     );
     let _ = machine.states.pop();
-    assert_eq!(rt; machine.tick::<CourtGame>(1), Outcome::Refused(Refusal::States));
+    assert_eq!(rt;
+        machine.tick::<CourtGame>(1),
+        Outcome::Refused(Refusal::States)
+    );
     let p = machine.p;
     assert_eq!(rt; (p.own, p.other, p.acked), (0, 0, 0));
     let inputs = &machine.inputs;
