@@ -5,7 +5,7 @@ use Rattle.std.proofs.lemmas.List.{append-nil, append_assoc, take_at, take_min, 
 use Rattle.std.proofs.lemmas.Bool.{cases_lt}
 use Rattle.byte_numbers.specs.Little.{part}
 use Rattle.court_game.specs.Snapshots.{state_bytes}
-use Rattle.court_game.specs.Sounding.{SoundingCourt, sounding_game, sounding_start}
+use Rattle.court_game.specs.Sounding.{SoundingCourt, sounding_game}
 use Rattle.game.specs.Plain.{plays, seat_0, seat_1}
 use Rattle.recording.specs.Matches.{sounding_after, marks}
 use Rattle.recording.specs.Reading.{differing}

@@ -12,10 +12,9 @@ impl Recording<'_> {
     /// The sound of the first frames as a WAV file, as many as are asked for and there.
     pub fn wav_until(&self, heap: Global, frames: usize) -> Result<Vec<u8>, AllocError>
         requires { length self.now.frames.now ≤ 1000000 }
-        ensures {
-            let played = take frames self.now.frames.now in
+        ensures { let played = take frames self.now.frames.now in
             IfOk result (λ file. file.items ≡
-                wav_header_of (length played) ++ game_sound (map seat_0 played) (map seat_1 played)) }
+            wav_header_of (length played) ++ game_sound (map seat_0 played) (map seat_1 played)) }
     {
         let end = frames.min(self.frames.len());
         game_wav(heap, &self.frames[..end])

@@ -1,5 +1,5 @@
 use Rattle.std.proofs.Common.{◌-◌, ◌*◌, ◌/◌, map, length, take, ◌∙◌, arith}
-use Rattle.court_game.specs.Saved.{court_saved, court_lawful}
+use Rattle.court_game.specs.Saved.{court_lawful}
 use Rattle.court_game.specs.Sounding.{sounding_start}
 use Rattle.court_game.proofs.Tones.{plays_in_game}
 use Rattle.game.specs.Plain.{seat_0, seat_1}
