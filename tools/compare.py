@@ -6,6 +6,7 @@ And what `replay` shows of a recording beside what `plain` shows of its frames, 
 
 Prints a line for each command whose results differ, and at the end how many did.
 """
+import functools
 import os
 import re
 import shutil
@@ -29,6 +30,40 @@ EXAMPLE = "48 8 1300 64 32 6"
 
 # Each row: seed, window, ticks, loss, twice, delay.
 RADIO = "11 20 700 32 16 17 12 1 90 0 0 0 13 60 400 200 64 40 14 7 500 0 255 12 15 33 300 256 0 3"
+
+
+def follow(state, seat, random):
+    """Keys of a paddle that follows the ball up and down, and does something in x."""
+    gap = state.y - state.paddles[seat][1]
+    return (8 if gap > 1200 else 4 if gap < -1200 else random.below(4) * 4) | random.below(4)
+
+
+@functools.lru_cache
+def rally(frames, stretch=100, tries=20):
+    """Frames of one long rally, in which the ball gets faster with each hit. A stretch in which somebody scores is played anew with
+    other keys, and where that does not help the stretches before it too."""
+    random, played = reference.Random(1), [(reference.State(), b"")]
+    while len(played) * stretch <= frames:
+        for _ in range(tries):
+            state, keys = played[-1][0].copy(), bytearray()
+            for _ in range(stretch):
+                held = [follow(state, seat, random) for seat in (0, 1)]
+                keys.append(held[0] + 16 * held[1])
+                state.frame(*held)
+            if state.score == [0, 0]:
+                played.append((state, bytes(keys)))
+                break
+        else:
+            del played[max(1, len(played) - 3):]
+    return b"".join(keys for _, keys in played)
+
+
+def fast_balls():
+    """The plain game of a rally, with balls of two, four and eight steps a frame at its end."""
+    for frames in (1000, 3000, 9000):
+        with open("rally.frames", "wb") as file:
+            file.write(rally(9000)[:frames])
+        yield ["plain", "rally.frames", "show"]
 
 
 def commands():
@@ -59,6 +94,7 @@ def commands():
     yield ["radio", *RADIO.split()]
     yield ["radio", *EXAMPLE.split()]
     yield ["radio", "1", "61", "1", "0", "0", "0"]
+    yield from fast_balls()
     yield from refused_lines()
 
 
