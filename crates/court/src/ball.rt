@@ -181,8 +181,9 @@ fn send_back(before: Ball, moved: Ball) -> Ball
     }
 }
 
-// Step 4. Both paddles look at the ball as step 3 left it; `before` is the ball before the step.
+// Step 4. Both paddles look at the ball as step 3 left it; `before` is the ball before the step. In line, as `step` is.
 #[tactic(auto, unfolding(crate::specs::Frame::both_at_once, crate::specs::Cues::paddles_heard))]
+#[inline(always)]
 fn meet_paddles(left: Paddle, right: Paddle, before: Ball, moved: HeardBall) -> HeardBall
     requires left_on_court { OnCourt left }
     requires right_on_court { OnCourt right }
@@ -222,7 +223,8 @@ pub(crate) struct FlyingBall {
 }
 
 impl FlyingBall {
-    // One step more, with the walls and the paddles.
+    // One step more, with the walls and the paddles. In line, since a call would pass ball and cue through memory.
+    #[inline(always)]
     fn step(self, by_x: i32, by_y: i32, left: Paddle, right: Paddle) -> FlyingBall
         requires few { self.steps < most_steps }
         requires x { Within (neg_ℤ (pos longest_step)) (pos longest_step) by_x }

@@ -1,5 +1,5 @@
 -- The court with its tone: its game is that of the court, and what is heard of it. Assumes nothing.
-use Rattle.std.proofs.Common.{◌≡◌, ℕ, ◌+◌, ◌<◌, ◌≤◌, List, [], ◌∷◌, ◌++◌, length, get_or, drop, map, ℤ, refl, sym, ap, ◌∙◌, append-nil}
+use Rattle.std.proofs.Common.{◌≡◌, ℕ, ◌+◌, ◌-◌, ◌<◌, ◌≤◌, List, [], ◌∷◌, ◌++◌, length, get_or, take, drop, map, slice_range, ℤ, refl, sym, ap, ◌∙◌, append-nil, arith}
 use Rattle.std.proofs.lemmas.List.{append_assoc, drop_all, drop_more}
 use Rattle.court.specs.Cues.{cue_of}
 use Rattle.sound.specs.Sound.{bytes_of, sample_bytes, sound_after, sound_bytes, frame_samples}
@@ -21,6 +21,15 @@ unfolding plays
 plays_in_game s h [] ys = h
 plays_in_game s h (x ∷ xs) [] = h
 plays_in_game s h (x ∷ xs) (y ∷ ys) = plays_in_game (sounding_frame s x y) (court_lawful.goes_on s x y h) xs ys
+
+-- the game of the part of the frames that is frame i alone
+pub one_frame : (s t : SoundingCourt) (fs : List ℕ) (i : ℕ) → i < length fs → t ≡ plays sounding_game s (map seat_0 (slice_range fs i (i + 1))) (map seat_1 (slice_range fs i (i + 1))) → t ≡ sounding_frame s (seat_0 (get_or fs i 0)) (seat_1 (get_or fs i 0))
+unfolding plays
+one_frame s t fs i h e =
+    let f : ℕ = get_or fs i 0 in
+    let one : i + 1 - i ≡ 1 = omega arith in
+    let part : slice_range fs i (i + 1) ≡ f ∷ [] = ap (λ n. take n (drop i fs)) one ∙ ap (take 1) (drop_more fs i 0 h) in
+    e ∙ ap (λ zs. plays sounding_game s (map seat_0 zs) (map seat_1 zs)) part
 
 -- ---- what is heard
 

@@ -7,6 +7,7 @@ ghost use Rattle.sound.specs.Sounding.{sounding};
 ghost use Rattle.sound.specs.Wav.{wav_header_of};
 
 use crate::sounding::CourtGame;
+use game::plain::play_frames;
 use game::rules::Game;
 use sound::{FRAME_BYTES, Tone, wav_header, write_samples};
 use std::alloc::{AllocError, Global};
@@ -26,8 +27,9 @@ pub fn keep_game_sound(frames: &[u8], samples: &mut Vec<u8>) -> Result<(), Alloc
     ensures { OnOk result (samples.new.items ≡ samples.old.items ++ game_sound (map seat_0 frames.now) (map seat_1 frames.now)) }
 {
     let mut game = CourtGame::start();
-    for frame in frames {
-        game = game.advance(*frame % 16, *frame / 16);
+    // By the plain game's loop, so that the code of a frame stands at one place in a program, in line there.
+    for i in 0..frames.len() {
+        game = play_frames(game, &frames[i..i + 1]);
         keep_sound(game.tone, samples)?;
     }
     Ok(())
