@@ -253,7 +253,8 @@ impl FlyingBall {
         requires right_half { InHalf Right right }
         ensures ball { result.heard.ball
             ≡ both_at_once left right self.heard.ball (step_moved first i self.heard.ball) }
-        ensures cue { result.heard.cue ≡ step_heard left right first i self.heard.ball self.heard.cue }
+        ensures cue { result.heard.cue
+            ≡ step_heard left right first i self.heard.ball self.heard.cue }
         ensures steps { result.steps ≡ self.steps + 1 }
     {
         let by_x = length_of_step(first.dx.unsigned_abs(), count, i);

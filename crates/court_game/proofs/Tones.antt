@@ -7,13 +7,19 @@ use Rattle.sound.specs.Tones.{tone_after}
 use Rattle.game.specs.Plain.{plays, seat_0, seat_1}
 use Rattle.court_game.specs.Sounding.{InGame, SoundingCourt, sounding_game, sounding_frame, CourtIsCourtGame}
 use Rattle.court_game.specs.Saved.{court_lawful}
-use Rattle.court_game.specs.Sounds.{cues_of}
+use Rattle.court_game.specs.Sounds.{cues_of, TonesAreOfCues}
 
 pub court_is_court_game : CourtIsCourtGame
 unfolding plays
 court_is_court_game s [] ys = refl
 court_is_court_game s (x ∷ xs) [] = refl
 court_is_court_game s (x ∷ xs) (y ∷ ys) = court_is_court_game (sounding_frame s x y) xs ys
+
+pub tones_are_of_cues : TonesAreOfCues
+unfolding plays cues_of
+tones_are_of_cues s [] ys = refl
+tones_are_of_cues s (x ∷ xs) [] = refl
+tones_are_of_cues s (x ∷ xs) (y ∷ ys) = tones_are_of_cues (sounding_frame s x y) xs ys
 
 -- a game comes to states in the court, with tones that are not over
 pub plays_in_game : (s : SoundingCourt) → InGame s → (xs ys : List ℕ) → InGame (plays sounding_game s xs ys)

@@ -27,7 +27,8 @@ small_bytes s = s.court.score.left ∷ (s.court.score.right ∷ (s.court.wait �
 -- ball, left paddle, right paddle; what has a byte each; 27 zero bytes
 abbrev pub state_bytes : SoundingCourt → List ℕ
 state_bytes s =
-    ball_bytes s.court.ball ++ (paddle_bytes s.court.left ++ (paddle_bytes s.court.right ++ (small_bytes s ++ replicate 27 0)))
+    ball_bytes s.court.ball
+    ++ (paddle_bytes s.court.left ++ (paddle_bytes s.court.right ++ (small_bytes s ++ replicate 27 0)))
 
 -- ---- the state that bytes say
 

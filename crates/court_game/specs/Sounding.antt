@@ -19,7 +19,8 @@ sounding_start = record { court = start; tone = silence }
 
 -- the court goes on as without its tone, and the tone by the frame's cue, also once the game is over
 abbrev pub sounding_frame : SoundingCourt → ℕ → ℕ → SoundingCourt
-sounding_frame s a b = record { court = advanced s.court a b; tone = tone_after s.tone (cue_of s.court a b) }
+sounding_frame s a b =
+    record { court = advanced s.court a b; tone = tone_after s.tone (cue_of s.court a b) }
 
 abbrev pub sounding_game : Game SoundingCourt
 sounding_game = record { start = sounding_start; frame = sounding_frame }
@@ -32,7 +33,9 @@ pub record InGame (s : SoundingCourt) : Type 0 where
   pub court_in : InCourt s.court
   pub tone_in : IsInRange s.tone
 
--- the court knows nothing of its tone: the court of the sounding game is the game of the court, whatever the inputs
+-- the court knows nothing of its tone: the court of the sounding game is the game of the court,
+-- whatever the inputs
 abbrev pub CourtIsCourtGame : Type 0
 CourtIsCourtGame =
-    (s : SoundingCourt) (xs ys : List ℕ) → (plays sounding_game s xs ys).court ≡ plays court_game s.court xs ys
+    (s : SoundingCourt) (xs ys : List ℕ) →
+    (plays sounding_game s xs ys).court ≡ plays court_game s.court xs ys

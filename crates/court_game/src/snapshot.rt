@@ -84,7 +84,8 @@ pub fn load_state(part: &[u8]) -> CourtGame
     requires { length part.now ≡ 64 }
     ensures court { result.court.state ≡ clamped_in (state_in part.now) }
     ensures tone { sounding result.tone ≡ tone_in part.now }
-    ensures saved { (s : SoundingCourt) → InGame s → part.now ≡ state_bytes s → sounding_court result ≡ s }
+    ensures saved { (s : SoundingCourt) → InGame s → part.now ≡ state_bytes s →
+        sounding_court result ≡ s }
 {
     let state = State {
         ball: get_ball(part),

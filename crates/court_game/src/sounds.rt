@@ -14,7 +14,8 @@ use std::alloc::{AllocError, Global};
 
 /// Puts a frame's samples behind those that are there, whole or not at all.
 pub fn keep_sound(tone: Tone, samples: &mut Vec<u8>) -> Result<(), AllocError>
-    ensures kept { OnOk result (samples.new.items ≡ samples.old.items ++ sound_bytes (sounding tone)) }
+    ensures kept { OnOk result
+        (samples.new.items ≡ samples.old.items ++ sound_bytes (sounding tone)) }
     ensures idle { OnErr result (samples.new.items ≡ samples.old.items) }
 {
     let mut frame = [0; FRAME_BYTES];
@@ -24,7 +25,8 @@ pub fn keep_sound(tone: Tone, samples: &mut Vec<u8>) -> Result<(), AllocError>
 
 /// The samples of a game from the start, behind those that are there, by frames of one byte: seat 0's input and 16 times seat 1's.
 pub fn keep_game_sound(frames: &[u8], samples: &mut Vec<u8>) -> Result<(), AllocError>
-    ensures { OnOk result (samples.new.items ≡ samples.old.items ++ game_sound (map seat_0 frames.now) (map seat_1 frames.now)) }
+    ensures { let sound = game_sound (map seat_0 frames.now) (map seat_1 frames.now) in
+        OnOk result (samples.new.items ≡ samples.old.items ++ sound) }
 {
     let mut game = CourtGame::start();
     // By the plain game's loop, so that the code of a frame stands at one place in a program, in line there.
@@ -38,8 +40,8 @@ pub fn keep_game_sound(frames: &[u8], samples: &mut Vec<u8>) -> Result<(), Alloc
 /// The sound of a game as a WAV file, by frames of one byte; at most `MOST_FRAMES` of them.
 pub fn game_wav(heap: Global, frames: &[u8]) -> Result<Vec<u8>, AllocError>
     requires { length frames.now ≤ 1000000 }
-    ensures { IfOk result (λ file. file.items ≡
-        wav_header_of (length frames.now) ++ game_sound (map seat_0 frames.now) (map seat_1 frames.now)) }
+    ensures { let sound = game_sound (map seat_0 frames.now) (map seat_1 frames.now) in
+        IfOk result (λ file. file.items ≡ wav_header_of (length frames.now) ++ sound) }
 {
     let mut file = Vec::new(heap);
     // The check proves that the cast loses nothing.

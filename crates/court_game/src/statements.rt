@@ -4,6 +4,7 @@ ghost use Rattle.court.specs.Passing.{StepsAreShort, FastBallIsSentBack};
 ghost use Rattle.court_game.specs.Games.{StaysIn, RestsAtNine, GamesComeOut};
 ghost use Rattle.court_game.specs.Passing.{NoBallPasses, MomentsAreOfTheGame};
 ghost use Rattle.court_game.specs.Sounding.{CourtIsCourtGame};
+ghost use Rattle.court_game.specs.Sounds.{TonesAreOfCues};
 ghost use Rattle.game.specs.Plain.{FromSaved};
 
 // Ball and paddles stay in the court, whatever the inputs.
@@ -28,10 +29,11 @@ pub fn games_come_out()
     ensures { GamesComeOut }
 {}
 
-/// The court knows nothing of its tone: that of the engine's game is the game of the court.
-#[tactic(auto, using(crate::proofs::Tones::court_is_court_game))]
-pub fn court_is_court_game()
-    ensures { CourtIsCourtGame }
+/// The court knows nothing of its tone: that of the engine's game is the game of the court. And its tone is that of the court's cues.
+#[tactic(auto, using(crate::proofs::Tones::court_is_court_game, crate::proofs::Tones::tones_are_of_cues))]
+pub fn court_and_tone()
+    ensures court { CourtIsCourtGame }
+    ensures tone { TonesAreOfCues }
 {}
 
 /// No ball passes through a paddle, whatever the inputs. From each moment of a game to the next the ball's middle gets from one

@@ -203,16 +203,20 @@ fn happen_kept(
     kept: &mut Kept,
     heard: bool,
 ) -> Result<Outcome, AllocError>
-    ensures row { (seat : At) (window : ℕ) (es : List Event) → After seat window es (memory_of p.old inputs.old states.old) →
-        After seat window (es ++ event_of event.entry ∷ []) (memory_of p.new inputs.new states.new) }
+    ensures row { (seat : At) (window : ℕ) (es : List Event) →
+        After seat window es (memory_of p.old inputs.old states.old) →
+        let row = es ++ event_of event.entry ∷ [] in
+        After seat window row (memory_of p.new inputs.new states.new) }
     ensures packets { OnOk result ((seat : At) (window : ℕ) (es : List Event) →
         After seat window es (memory_of p.old inputs.old states.old) →
+        let log = log_after window es in
         kept.new.letters.items
-        ≡ kept.old.letters.items ++ packets_sent window (log_after window es) (event_of event.entry ∷ [])) }
+        ≡ kept.old.letters.items ++ packets_sent window log (event_of event.entry ∷ [])) }
     ensures sounds { OnOk result (heard ≡ true → (seat : At) (window : ℕ) (es : List Event) →
         After seat window es (memory_of p.old inputs.old states.old) →
+        let log = log_after window es in
         kept.new.sounds.items
-        ≡ kept.old.sounds.items ++ sounds_handed seat window (log_after window es) (event_of event.entry ∷ [])) }
+        ≡ kept.old.sounds.items ++ sounds_handed seat window log (event_of event.entry ∷ [])) }
 {
     let Kept { letters, sounds } = kept;
     if heard {
@@ -234,9 +238,11 @@ fn play(
 ) -> anyhow::Result<Kept>
     ensures row { OnOk result ((seat : At) (window : ℕ) (before es : List Event) → After seat window before (memory_of p.old memory.old.inputs.items memory.old.states.items) → FileOf es row.entry.file.now → After seat window (before ++ es) (memory_of p.new memory.new.inputs.items memory.new.states.items)) }
     ensures packets { IfOk result (λ k. (seat : At) (window : ℕ) (before es : List Event) → After seat window before (memory_of p.old memory.old.inputs.items memory.old.states.items) → FileOf es row.entry.file.now → k.letters.items ≡ packets_sent window (log_after window before) es) }
-    ensures sounds { IfOk result (λ k. heard ≡ true → (seat : At) (window : ℕ) (before es : List Event) →
+    ensures sounds { IfOk result (λ k. heard ≡ true →
+        (seat : At) (window : ℕ) (before es : List Event) →
         After seat window before (memory_of p.old memory.old.inputs.items memory.old.states.items) →
-        FileOf es row.entry.file.now → k.sounds.items ≡ sounds_handed seat window (log_after window before) es) }
+        FileOf es row.entry.file.now →
+        k.sounds.items ≡ sounds_handed seat window (log_after window before) es) }
 {
     let mut kept = Kept {
         letters: Vec::new(rt.alloc()),

@@ -17,7 +17,8 @@ use game::saved::STATE_BYTES;
 // The frames behind the last saved state: at most 599.
 fn play_rest(from: CourtGame, rest: &[u8]) -> CourtGame
     requires { length rest.now < 600 }
-    ensures { sounding_court result ≡ plays sounding_game (sounding_court from) (map seat_0 rest.now) (map seat_1 rest.now) }
+    ensures { sounding_court result
+        ≡ plays sounding_game (sounding_court from) (map seat_0 rest.now) (map seat_1 rest.now) }
 {
     game::plain::play_frames(from, rest)
 }
@@ -27,7 +28,8 @@ impl Recording<'_> {
     #[tactic(auto, using(crate::proofs::Frames::length_marks), unfolding(game::specs::Plain::plays))]
     fn saved(&self, marks: usize) -> Option<CourtGame>
         requires { marks ≤ length self.now.frames.now / 600 }
-        ensures { Right self.now → IsSomeAnd result (λ g. sounding_court g ≡ sounding_after (take (600 * marks) self.now.frames.now)) }
+        ensures { Right self.now → IsSomeAnd result
+            (λ g. sounding_court g ≡ sounding_after (take (600 * marks) self.now.frames.now)) }
     {
         if marks == 0 {
             return Some(CourtGame::start());
@@ -39,7 +41,9 @@ impl Recording<'_> {
 
     /// The state after a frame, with its tone; none beyond the last.
     pub fn game_after(&self, frame: usize) -> Option<CourtGame>
-        ensures { Right self.now → MatchOption result (length self.now.frames.now < frame) (λ g. (frame ≤ length self.now.frames.now) × (sounding_court g ≡ sounding_after (take frame self.now.frames.now))) }
+        ensures { Right self.now → MatchOption result (length self.now.frames.now < frame)
+            (λ g. (frame ≤ length self.now.frames.now)
+            × (sounding_court g ≡ sounding_after (take frame self.now.frames.now))) }
     {
         let played = self.frames.get(..frame)?;
         let marks = frame / EVERY;

@@ -42,4 +42,5 @@ said_drawn window states picture =
 -- what is said of handing out a sound, by the window and the lengths of the lent states and of the lent memory for it
 abbrev pub said_handed : ℕ → ℕ → ℕ → Result (Unit {0}) Refused
 said_handed window states sound =
-    cond (nat_lt states ((window + 1) * 64)) (Err (Peer States)) (cond (nat_lt sound 1600) (Err Sound) (Ok tt))
+    cond (nat_lt states ((window + 1) * 64)) (Err (Peer States))
+    (cond (nat_lt sound 1600) (Err Sound) (Ok tt))

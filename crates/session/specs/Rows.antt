@@ -54,12 +54,14 @@ plays_next window log (arrival xs) = false
 unfoldable pub sounds_handed : Seat → ℕ → Log → List Event → List ℕ
 sounds_handed seat window log [] = []
 sounds_handed seat window log (e ∷ es) =
-    cond (plays_next window log e) (sound_bytes (shows sounding_game seat (event is_input window log e)).tone) []
-    ++ sounds_handed seat window (event is_input window log e) es
+    let next : Log = event is_input window log e in
+    cond (plays_next window log e) (sound_bytes (shows sounding_game seat next).tone) []
+    ++ sounds_handed seat window next es
 
 -- each frame is handed out once: over any row of events, right and wrong, there are 1,600 bytes for each frame by which the own
 -- inputs become longer, whatever came in between
 abbrev pub HandedOnce : Type 0
 HandedOnce =
     (seat : Seat) (window : ℕ) (log : Log) (es : List Event) →
-    length (sounds_handed seat window log es) + 1600 * length log.own ≡ 1600 * length (run is_input window log es).own
+    length (sounds_handed seat window log es) + 1600 * length log.own
+    ≡ 1600 * length (run is_input window log es).own

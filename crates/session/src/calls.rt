@@ -155,13 +155,16 @@ pub fn hand_out(p: &Peer, states: &[u8], sound: &mut [u8]) -> Result<(), Refused
     ensures answer { result ≡ said_handed p.now.window (length states.now) (length sound.old) }
     ensures behind { drop 1600 sound.new ≡ drop 1600 sound.old }
     ensures idle { is_err result ≡ true → sound.new ≡ sound.old }
-    ensures some { OnOk result ((t : Sounding) × IsInRange t × (sound.new ≡ sound_bytes t ++ drop 1600 sound.old)) }
+    ensures some { OnOk result ((t : Sounding) × IsInRange t
+        × (sound.new ≡ sound_bytes t ++ drop 1600 sound.old)) }
     ensures stands { (seat : At) (window : ℕ) (log : Log) (inputs : List ℕ) →
-        StandsFor court_saved seat window log (memory p.now inputs states.now) → is_ok result ≡ true →
+        StandsFor court_saved seat window log (memory p.now inputs states.now) →
+        is_ok result ≡ true →
         sound.new ≡ sound_bytes (shows sounding_game seat log).tone ++ drop 1600 sound.old }
     ensures row { (seat : At) (window : ℕ) (es : List Event) (inputs : List ℕ) →
         After seat window es (memory p.now inputs states.now) → is_ok result ≡ true →
-        sound.new ≡ sound_bytes (shows sounding_game seat (log_after window es)).tone ++ drop 1600 sound.old }
+        let log = log_after window es in
+        sound.new ≡ sound_bytes (shows sounding_game seat log).tone ++ drop 1600 sound.old }
 {
     let game: CourtGame = shown(p, states)?;
     Ok(write_samples(game.tone, sound)?)

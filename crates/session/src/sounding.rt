@@ -51,17 +51,23 @@ pub fn happen_sounding(
     packets: &mut Vec<u8>,
     sounds: &mut Vec<u8>,
 ) -> Result<Outcome, AllocError>
-    ensures answer { IfOk result (λ o. o ≡
-        said is_input p.old.window (length inputs.old) (length states.old) (log_of p.old inputs.old) (event_of event.entry)) }
-    ensures happens { Happened court_saved p.old inputs.old states.old (event_of event.entry) p.new inputs.new states.new }
-    ensures row { (seat : At) (window : ℕ) (es : List Event) → After seat window es (memory p.old inputs.old states.old) →
+    ensures answer { let log = log_of p.old inputs.old in
+        IfOk result (λ o. o ≡
+        said is_input p.old.window (length inputs.old) (length states.old) log (event_of event.entry)) }
+    ensures happens { let e = event_of event.entry in
+        Happened court_saved p.old inputs.old states.old e p.new inputs.new states.new }
+    ensures row { (seat : At) (window : ℕ) (es : List Event) →
+        After seat window es (memory p.old inputs.old states.old) →
         After seat window (es ++ event_of event.entry ∷ []) (memory p.new inputs.new states.new) }
     ensures packets { OnOk result ((seat : At) (window : ℕ) (es : List Event) →
         After seat window es (memory p.old inputs.old states.old) →
-        packets.new.items ≡ packets.old.items ++ packets_sent window (log_after window es) (event_of event.entry ∷ [])) }
+        packets.new.items
+        ≡ packets.old.items ++ packets_sent window (log_after window es) (event_of event.entry ∷ [])) }
     ensures sounds { OnOk result ((seat : At) (window : ℕ) (es : List Event) →
         After seat window es (memory p.old inputs.old states.old) →
-        sounds.new.items ≡ sounds.old.items ++ sounds_handed seat window (log_after window es) (event_of event.entry ∷ [])) }
+        let log = log_after window es in
+        sounds.new.items
+        ≡ sounds.old.items ++ sounds_handed seat window log (event_of event.entry ∷ [])) }
 {
     let outcome = happen_keeping(p, inputs, states, event, packets)?;
     if is_heard(event, outcome) {
