@@ -5,7 +5,7 @@ ghost use Rattle.court.specs.Bounds.{Within, Flying, BallIn, OnCourt, InHalf};
 ghost use Rattle.court.specs.declared.state.Side.TheVariants.{Left, Right};
 ghost use Rattle.court.specs.Frame.{top_speed, longest_step, most_steps, step_count, step_length, step_moved, along, after_steps};
 ghost use Rattle.court.specs.Frame.{sixteenth_of, inward, quickened, bent_by, meets, ball_moved, struck, sent_back, both_at_once};
-ghost use Rattle.court.specs.Cues.{wall_heard, paddles_heard, step_heard, heard_after};
+ghost use Rattle.court.specs.Cues.{cue_at_wall, cue_at_paddles, cue_at_step, cue_after_steps};
 
 use crate::cue::Cue;
 use crate::span::{BALL_Y, SPEEDS};
@@ -85,13 +85,13 @@ pub(crate) struct HeardBall {
 }
 
 // Step 3: the ball goes so far in x and in y, and turns round at the walls.
-#[tactic(auto, unfolding(crate::specs::Cues::wall_heard))]
+#[tactic(auto, unfolding(crate::specs::Cues::cue_at_wall))]
 fn move_ball(from: HeardBall, by_x: i32, by_y: i32) -> HeardBall
     requires ball { Flying most_steps from.ball }
     requires x { Within (neg_ℤ (pos longest_step)) (pos longest_step) by_x }
     requires y { Within (neg_ℤ (pos longest_step)) (pos longest_step) by_y }
     ensures ball { result.ball ≡ ball_moved by_x by_y from.ball }
-    ensures cue { result.cue ≡ wall_heard by_y from.ball from.cue }
+    ensures cue { result.cue ≡ cue_at_wall by_y from.ball from.cue }
 {
     let b = from.ball;
     let y = b.y + by_y;
@@ -181,15 +181,16 @@ fn send_back(before: Ball, moved: Ball) -> Ball
     }
 }
 
-// Step 4. Both paddles look at the ball as step 3 left it; `before` is the ball before the step. In line, as `step` is.
-#[tactic(auto, unfolding(crate::specs::Frame::both_at_once, crate::specs::Cues::paddles_heard))]
+// Step 4. Both paddles look at the ball as step 3 left it; `before` is the ball before the step. In
+// line, as `step` is.
+#[tactic(auto, unfolding(crate::specs::Frame::both_at_once, crate::specs::Cues::cue_at_paddles))]
 #[inline(always)]
 fn meet_paddles(left: Paddle, right: Paddle, before: Ball, moved: HeardBall) -> HeardBall
     requires left_on_court { OnCourt left }
     requires right_on_court { OnCourt right }
     requires flies { Flying most_steps moved.ball }
     ensures ball { result.ball ≡ both_at_once left right before moved.ball }
-    ensures cue { result.cue ≡ paddles_heard left right moved.ball moved.cue }
+    ensures cue { result.cue ≡ cue_at_paddles left right moved.ball moved.cue }
 {
     if touches(moved.ball, left) {
         if touches(moved.ball, right) {
@@ -223,7 +224,8 @@ pub(crate) struct FlyingBall {
 }
 
 impl FlyingBall {
-    // One step more, with the walls and the paddles. In line, since a call would pass ball and cue through memory.
+    // One step more, with the walls and the paddles. In line, since a call would pass ball and cue
+    // through memory.
     #[inline(always)]
     fn step(self, by_x: i32, by_y: i32, left: Paddle, right: Paddle) -> FlyingBall
         requires few { self.steps < most_steps }
@@ -234,8 +236,8 @@ impl FlyingBall {
         ensures ball { result.heard.ball
             ≡ both_at_once left right self.heard.ball (ball_moved by_x by_y self.heard.ball) }
         ensures cue { result.heard.cue
-            ≡ paddles_heard left right (ball_moved by_x by_y self.heard.ball)
-            (wall_heard by_y self.heard.ball self.heard.cue) }
+            ≡ cue_at_paddles left right (ball_moved by_x by_y self.heard.ball)
+            (cue_at_wall by_y self.heard.ball self.heard.cue) }
         ensures steps { result.steps ≡ self.steps + 1 }
     {
         let moved = move_ball(self.heard, by_x, by_y);
@@ -254,7 +256,7 @@ impl FlyingBall {
         ensures ball { result.heard.ball
             ≡ both_at_once left right self.heard.ball (step_moved first i self.heard.ball) }
         ensures cue { result.heard.cue
-            ≡ step_heard left right first i self.heard.ball self.heard.cue }
+            ≡ cue_at_step left right first i self.heard.ball self.heard.cue }
         ensures steps { result.steps ≡ self.steps + 1 }
     {
         let by_x = length_of_step(first.dx.unsigned_abs(), count, i);
@@ -275,7 +277,7 @@ pub(crate) fn fly(first: Ball, left: Paddle, right: Paddle) -> HeardBall
     requires left_half { InHalf Left left }
     requires right_half { InHalf Right right }
     ensures ball { result.ball ≡ after_steps both_at_once left right first (step_count first) }
-    ensures cue { result.cue ≡ heard_after left right first (step_count first) }
+    ensures cue { result.cue ≡ cue_after_steps left right first (step_count first) }
 {
     let mut flying = FlyingBall {
         heard: HeardBall {

@@ -2,7 +2,7 @@
 ghost use Rattle.std.specs.Prelude.{◌≡◌, ◌<◌, ◌≤◌, if◌then◌else◌};
 ghost use Rattle.court.specs.Bounds.{InPlay};
 ghost use Rattle.court.specs.Frame.{in_goal, awarded, serve_ball, scored, end_at, turned, end_met, ends_met};
-ghost use Rattle.court.specs.Cues.{ends_heard};
+ghost use Rattle.court.specs.Cues.{cue_at_ends};
 ghost use Rattle.court.specs.declared.cue.Cue.TheVariants.{Point, Wall};
 
 use crate::ball::into_court;
@@ -125,10 +125,10 @@ impl Rally {
         }
     }
 
-    #[tactic(auto, unfolding(crate::specs::Frame::ends_met, crate::specs::Cues::ends_heard))]
+    #[tactic(auto, unfolding(crate::specs::Frame::ends_met, crate::specs::Cues::cue_at_ends))]
     pub(crate) fn meet_ends(self) -> HeardState
         ensures state { result.state ≡ ends_met self.state }
-        ensures cue { result.cue ≡ ends_heard self.state.ball self.cue }
+        ensures cue { result.cue ≡ cue_at_ends self.state.ball self.cue }
     {
         let x = self.state.ball.x;
         if x < BALL_X.least {

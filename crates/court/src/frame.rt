@@ -2,7 +2,7 @@
 ghost use Rattle.std.specs.Prelude.{◌≡◌, ◌<◌};
 ghost use Rattle.court.specs.Bounds.{InCourt};
 ghost use Rattle.court.specs.Frame.{over, waited, ball_played, advanced};
-ghost use Rattle.court.specs.Cues.{ball_heard, cue_of};
+ghost use Rattle.court.specs.Cues.{ball_cue, cue_of};
 
 use crate::LAST_POINT;
 use crate::ball::fly;
@@ -31,7 +31,7 @@ impl Court {
     fn play_ball(self) -> Frame
         requires { (self.state.score.left < 9) × (self.state.score.right < 9) }
         ensures value { result.court.state ≡ ball_played self.state }
-        ensures cue { result.cue ≡ ball_heard self.state }
+        ensures cue { result.cue ≡ ball_cue self.state }
     {
         let s = self.state;
         let flown = fly(s.ball, s.left, s.right);
@@ -49,8 +49,8 @@ impl Court {
         }
     }
 
-    /// The paddles go; then the wait falls by one, or where there is none the ball is played. A game
-    /// that is over stays as it is.
+    /// The paddles go; then the wait falls by one, or where there is none the ball is played. A
+    /// game that is over stays as it is.
     pub fn frame(self, left: Input, right: Input) -> Frame
         ensures value { result.court.state ≡ advanced self.state left.0 right.0 }
         ensures cue { result.cue ≡ cue_of self.state left.0 right.0 }

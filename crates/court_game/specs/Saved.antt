@@ -1,4 +1,5 @@
--- The court with its tone as a game whose states are saved, and that it is one as the engine asks. Assumes nothing.
+-- The court with its tone as a game whose states are saved, and that it is one as the engine asks.
+-- Assumes nothing.
 use Rattle.std.specs.Prelude.{refl}
 use Rattle.std.proofs.lemmas.Bool.{leb-true}
 use Rattle.court.specs.Cues.{cue_of}

@@ -1,4 +1,5 @@
--- The court with its tone, as a game. Assumes nothing: these are definitions, and a statement that is proved in proofs/.
+-- The court with its tone, as a game. Assumes nothing: these are definitions, and a statement that
+-- is proved in proofs/.
 use Rattle.std.specs.Prelude.{◌≡◌, ℕ, List}
 use Rattle.court.specs.declared.state.State.{State}
 use Rattle.court.specs.Bounds.{InCourt}
@@ -17,7 +18,8 @@ pub record SoundingCourt : Type 0 where
 abbrev pub sounding_start : SoundingCourt
 sounding_start = record { court = start; tone = silence }
 
--- the court goes on as without its tone, and the tone by the frame's cue, also once the game is over
+-- the court goes on as without its tone, and the tone by the frame's cue, also once the game is
+-- over
 abbrev pub sounding_frame : SoundingCourt → ℕ → ℕ → SoundingCourt
 sounding_frame s a b =
     record { court = advanced s.court a b; tone = tone_after s.tone (cue_of s.court a b) }

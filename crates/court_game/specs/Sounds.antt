@@ -1,5 +1,5 @@
--- What is heard of a whole game of the court. Assumes nothing: these are definitions, and a statement that is
--- proved in proofs/.
+-- What is heard of a whole game of the court. Assumes nothing: these are definitions, and a
+-- statement that is proved in proofs/.
 use Rattle.std.specs.Prelude.{◌≡◌, ℕ, List, [], ◌∷◌}
 use Rattle.court.specs.declared.cue.Cue.{Cue}
 use Rattle.court.specs.declared.state.State.{State}

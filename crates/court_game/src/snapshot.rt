@@ -1,4 +1,5 @@
-// A state of the court and its tone in 64 bytes. The part has to have that length: callers are proved to see to that.
+// A state of the court and its tone in 64 bytes. The part has to have that length: callers are
+// proved to see to that.
 ghost use Rattle.std.specs.Prelude.{◌≡◌, ◌+◌, ◌≤◌, length};
 ghost use Rattle.byte_numbers.specs.Little.{overwritten};
 ghost use Rattle.court.specs.Bounds.{clamped_in};
@@ -79,7 +80,8 @@ fn get_paddle(part: &[u8], at: usize) -> Paddle
     }
 }
 
-/// The state that bytes say, each number brought into its range; so bytes of a state that a game comes to are that state.
+/// The state that bytes say, each number brought into its range; so bytes of a state that a game
+/// comes to are that state.
 pub fn load_state(part: &[u8]) -> CourtGame
     requires { length part.now ≡ 64 }
     ensures court { result.court.state ≡ clamped_in (state_in part.now) }

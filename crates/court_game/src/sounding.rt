@@ -6,7 +6,8 @@ use court::{Court, Input};
 use game::rules::Game;
 use sound::Tone;
 
-/// A court as an engine holds it, with the tone that sounds; a type of this crate, so that the trait can be implemented for it.
+/// A court as an engine holds it, with the tone that sounds; a type of this crate, so that the
+/// trait can be implemented for it.
 #[derive(Clone, Copy)]
 pub struct CourtGame {
     pub court: Court,

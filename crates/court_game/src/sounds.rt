@@ -23,13 +23,15 @@ pub fn keep_sound(tone: Tone, samples: &mut Vec<u8>) -> Result<(), AllocError>
     samples.extend_from_slice(&frame)
 }
 
-/// The samples of a game from the start, behind those that are there, by frames of one byte: seat 0's input and 16 times seat 1's.
+/// The samples of a game from the start, behind those that are there, by frames of one byte: seat
+/// 0's input and 16 times seat 1's.
 pub fn keep_game_sound(frames: &[u8], samples: &mut Vec<u8>) -> Result<(), AllocError>
     ensures { let sound = game_sound (map seat_0 frames.now) (map seat_1 frames.now) in
         OnOk result (samples.new.items ≡ samples.old.items ++ sound) }
 {
     let mut game = CourtGame::start();
-    // By the plain game's loop, so that the code of a frame stands at one place in a program, in line there.
+    // By the plain game's loop, so that the code of a frame stands at one place in a program, in
+    // line there.
     for i in 0..frames.len() {
         game = play_frames(game, &frames[i..i + 1]);
         keep_sound(game.tone, samples)?;

@@ -39,7 +39,8 @@ abbrev pub said_drawn : ℕ → ℕ → ℕ → Result (Unit {0}) Refused
 said_drawn window states picture =
     cond (nat_lt states ((window + 1) * 64)) (Err (Peer States)) (cond (nat_lt picture 19200) (Err Picture) (Ok tt))
 
--- what is said of handing out a sound, by the window and the lengths of the lent states and of the lent memory for it
+-- what is said of handing out a sound, by the window and the lengths of the lent states and of the
+-- lent memory for it
 abbrev pub said_handed : ℕ → ℕ → ℕ → Result (Unit {0}) Refused
 said_handed window states sound =
     cond (nat_lt states ((window + 1) * 64)) (Err (Peer States))

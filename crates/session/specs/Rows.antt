@@ -19,18 +19,21 @@ log_after window es = run is_input window new_log es
 abbrev pub memory : Peer → List ℕ → List ℕ → Memory
 memory p inputs states = record { peer = p; inputs = inputs; states = states }
 
--- memory as a session has it that was begun and to which a row of events happened, right and wrong: it stands for their log
+-- memory as a session has it that was begun and to which a row of events happened, right and wrong:
+-- it stands for their log
 abbrev pub After : Seat → ℕ → List Event → Memory → Type 0
 After seat window es m = StandsFor court_saved seat window (log_after window es) m
 
--- after a row of events the packet is written that the definitions give for it, and its length told; or none is, and all stays
+-- after a row of events the packet is written that the definitions give for it, and its length
+-- told; or none is, and all stays
 abbrev pub WritesOwn : ℕ → List Event → Bool → List ℕ → Option ℕ → List ℕ → Type 0
 WritesOwn window es written out length out' =
     (length ≡ sent written (sends (log_after window es))) × (out' ≡ packet_over written (sends (log_after window es)) out)
 
 -- ---- all that is sent
 
--- whether a packet is written for an event, where memory is long enough: after a tick with an input of the game
+-- whether a packet is written for an event, where memory is long enough: after a tick with an input
+-- of the game
 abbrev pub tells : Event → Bool
 tells (tick a) = is_input a
 tells (arrival xs) = false
@@ -44,13 +47,15 @@ packets_sent window log (e ∷ es) =
 
 -- ---- all that is heard
 
--- whether an event plays a frame that was not played before, where memory is long enough: it makes the own inputs longer
+-- whether an event plays a frame that was not played before, where memory is long enough: it makes
+-- the own inputs longer
 abbrev pub plays_next : ℕ → Log → Event → Bool
 plays_next window log (tick a) = is_input a && goes_on window log
 plays_next window log (arrival xs) = false
 
--- the sounds that are handed out over a row of events: of each frame that is played next, what then is shown of it. Frames that are
--- played again are not handed out again; a tick that is lost hands out nothing, and no packet does
+-- the sounds that are handed out over a row of events: of each frame that is played next, what then
+-- is shown of it. Frames that are played again are not handed out again; a tick that is lost hands
+-- out nothing, and no packet does
 unfoldable pub sounds_handed : Seat → ℕ → Log → List Event → List ℕ
 sounds_handed seat window log [] = []
 sounds_handed seat window log (e ∷ es) =
@@ -58,8 +63,8 @@ sounds_handed seat window log (e ∷ es) =
     cond (plays_next window log e) (sound_bytes (shows sounding_game seat next).tone) []
     ++ sounds_handed seat window next es
 
--- each frame is handed out once: over any row of events, right and wrong, there are 1,600 bytes for each frame by which the own
--- inputs become longer, whatever came in between
+-- each frame is handed out once: over any row of events, right and wrong, there are 1,600 bytes for
+-- each frame by which the own inputs become longer, whatever came in between
 abbrev pub HandedOnce : Type 0
 HandedOnce =
     (seat : Seat) (window : ℕ) (log : Log) (es : List Event) →

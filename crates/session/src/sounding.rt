@@ -1,4 +1,5 @@
-// Events with what is heard of them: the packets that a peer sends and the sounds that it hands out, each kept behind those before.
+// Events with what is heard of them: the packets that a peer sends and the sounds that it hands
+// out, each kept behind those before.
 ghost use Rattle.std.specs.Prelude.{◌≡◌, ℕ, true, List, [], ◌∷◌, ◌++◌, length, is_err, IfOk, OnOk};
 ghost use Rattle.court_game.specs.Games.{is_input};
 ghost use Rattle.court_game.specs.Saved.{court_saved};
@@ -27,7 +28,8 @@ fn is_heard(event: Happening, outcome: Outcome) -> bool
     matches!((event, outcome), (Happening::Tick(_), Outcome::Taken(_)))
 }
 
-// Puts the sound of the last frame of what the peer shows behind those that are there, whole or not at all.
+// Puts the sound of the last frame of what the peer shows behind those that are there, whole or not
+// at all.
 fn keep_shown(p: &Peer, states: &[u8], sounds: &mut Vec<u8>) -> Result<(), AllocError>
     requires { LongStates p.now.window states.now }
     ensures stands { OnOk result ((seat : At) (window : ℕ) (log : Log) (inputs : List ℕ) →
@@ -40,9 +42,10 @@ fn keep_shown(p: &Peer, states: &[u8], sounds: &mut Vec<u8>) -> Result<(), Alloc
     sounds.extend_from_slice(&sound)
 }
 
-/// One event. The packet that is written, if one is, and the sound of the frame that a tick plays are put behind those before them.
-/// After a row of events these are all packets and all sounds that the definitions give for it, in order: each frame is handed out
-/// once, as the peer shows it when its tick plays it. Without memory for them the event has happened all the same.
+/// One event. The packet that is written, if one is, and the sound of the frame that a tick plays
+/// are put behind those before them. After a row of events these are all packets and all sounds
+/// that the definitions give for it, in order: each frame is handed out once, as the peer shows it
+/// when its tick plays it. Without memory for them the event has happened all the same.
 pub fn happen_sounding(
     p: &mut Peer,
     inputs: &mut [u8],

@@ -6,7 +6,8 @@ use session::{Happening, Refused};
 use sound::FRAME_BYTES;
 use std::test::*;
 
-// The ball meets the right end in frame 100. What is handed out then is a tone, and before that silence.
+// The ball meets the right end in frame 100. What is handed out then is a tone, and before that
+// silence.
 #[test]
 fn end_is_heard(rt: HostRuntime) -> Result<(), Fail> {
     let mut machine = Machine::begin(rt.alloc(), Seat::Left, 60, 61 * 64)?;

@@ -4,7 +4,8 @@ use Rattle.std.specs.Fmt.{decimal}
 use Rattle.sound.specs.declared.samples.Refused.{Refused}
 use Rattle.sound.specs.declared.samples.Refused.TheVariants.{TooShort}
 
--- lent memory that is too short is refusal 5, and the sound has place 6 among what is lent or agreed
+-- lent memory that is too short is refusal 5, and the sound has place 6 among what is lent or
+-- agreed
 abbrev pub refusal_number : Refused → ℕ
 refusal_number TooShort = 5
 

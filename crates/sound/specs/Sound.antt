@@ -1,5 +1,5 @@
--- Samples: 48,000 a second, 800 in each frame, in 16 bits with a sign. Assumes nothing: these are definitions, and statements that are
--- proved in proofs/.
+-- Samples: 48,000 a second, 800 in each frame, in 16 bits with a sign. Assumes nothing: these are
+-- definitions, and statements that are proved in proofs/.
 use Rattle.std.specs.Prelude.{◌≡◌, ◌≢◌, ℕ, zero, suc, ◌+◌, ◌-◌, ◌*◌, ◌/◌, ◌%◌, ◌<◌, if◌then◌else◌, List, [], ◌∷◌, ◌++◌, ◌==◌, fold, replicate, ℤ, pos, neg_ℤ, ◌+ℤ◌, length, slice_index_or}
 use Rattle.std.specs.Int.{w16, cast_unsigned, to_le_bytes}
 use Rattle.court.specs.declared.cue.Cue.{Cue}
@@ -82,7 +82,8 @@ abbrev pub Whole : Type 0
 Whole = (t : Sounding) →
     (length (frame_samples t) ≡ frame_length) × (length (sound_bytes t) ≡ 2 * frame_length)
 
--- the sound of many frames is that of the first, and then of the others, from the first one's tone on
+-- the sound of many frames is that of the first, and then of the others, from the first one's tone
+-- on
 abbrev pub FrameByFrame : Type 0
 FrameByFrame = (t : Sounding) (c : Cue) (cs : List Cue) →
     bytes_of (sound_after t (c ∷ cs)) ≡

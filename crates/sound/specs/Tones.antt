@@ -1,5 +1,5 @@
--- Tones: which a cue begins, how long each lasts, and how they are saved. Assumes nothing: these are definitions, and statements
--- that are proved in proofs/.
+-- Tones: which a cue begins, how long each lasts, and how they are saved. Assumes nothing: these
+-- are definitions, and statements that are proved in proofs/.
 use Rattle.std.specs.Prelude.{◌≡◌, ◌≢◌, ℕ, ◌+◌, ◌-◌, ◌<◌, ◌≤◌, if◌then◌else◌, List, [], ◌∷◌, nat_lt, ◌==◌, replicate, slice_index}
 use Rattle.court.specs.declared.cue.Cue.{Cue}
 use Rattle.court.specs.declared.cue.Cue.TheVariants.{Nothing, Paddle, Wall, Point}

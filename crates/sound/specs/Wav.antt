@@ -1,5 +1,5 @@
--- A sound as a WAV file: one channel, 16 bits a sample. Assumes nothing: these are definitions, and statements that are proved in
--- proofs/.
+-- A sound as a WAV file: one channel, 16 bits a sample. Assumes nothing: these are definitions, and
+-- statements that are proved in proofs/.
 use Rattle.std.specs.Prelude.{◌≡◌, ℕ, ◌+◌, ◌*◌, List, ◌++◌, codes, length}
 use Rattle.std.specs.Int.{w16, w32, to_le_bytes}
 use Rattle.court.specs.declared.cue.Cue.{Cue}

@@ -1,5 +1,5 @@
-// What a frame gives to hear, as samples: a cue begins a tone, and a tone is 800 samples in each of its frames.
-// Rests on court.
+// What a frame gives to hear, as samples: a cue begins a tone, and a tone is 800 samples in each of
+// its frames. Rests on court.
 #![tactic(auto)]
 
 pub mod samples;

@@ -85,7 +85,8 @@ fn sample_in_bytes(tone: Tone, j: usize) -> [u8; SAMPLE_BYTES]
     sample(tone, j).to_le_bytes()
 }
 
-/// Writes a frame's samples over the first bytes of `part`, and leaves those after them. A shorter slice is refused and stays as it was.
+/// Writes a frame's samples over the first bytes of `part`, and leaves those after them. A shorter
+/// slice is refused and stays as it was.
 pub fn write_samples(tone: Tone, part: &mut [u8]) -> Result<(), Refused>
     ensures value { result ≡
         (if nat_le FRAME_BYTES (length part.old) then Ok tt else Err Refused.TooShort) }

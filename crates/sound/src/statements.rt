@@ -18,7 +18,8 @@ pub fn tones_come_back()
     ensures back { ComesBack }
 {}
 
-/// A frame has its 800 samples, each in its place, and those of a tone that is heard to its end add up to 0.
+/// A frame has its 800 samples, each in its place, and those of a tone that is heard to its end add
+/// up to 0.
 pub fn samples_add_up()
     ensures in_place { SamplesInPlace }
     ensures whole { Whole }

@@ -4,7 +4,8 @@ ghost use Rattle.sound.specs.Tones.{last_age};
 
 use court::Cue;
 
-/// What sounds in a frame: the cue that began it, and how many frames ago. Silence is a tone of `Cue::Nothing`, of age 0.
+/// What sounds in a frame: the cue that began it, and how many frames ago. Silence is a tone of
+/// `Cue::Nothing`, of age 0.
 #[derive(Clone, Copy, PartialEq, Eq, Debug)]
 pub struct Tone {
     pub kind: Cue,
@@ -52,7 +53,8 @@ impl Tone {
         }
     }
 
-    /// The tone one frame later, in the frame that gives a cue. The newest cue counts: its tone replaces one that still sounds.
+    /// The tone one frame later, in the frame that gives a cue. The newest cue counts: its tone
+    /// replaces one that still sounds.
     pub fn after(self, cue: Cue) -> Tone
         ensures { sounding result ≡ tone_after (sounding self) cue }
     {

@@ -1,6 +1,6 @@
-// The sound of chosen frames: the tone of each, and a checksum of its samples in bytes; and the heads of WAV files.
-// What it must print was worked out from the rules, apart from this code.
-// Rests on court and sound.
+// The sound of chosen frames: the tone of each, and a checksum of its samples in bytes; and the
+// heads of WAV files. What it must print was worked out from the rules, apart from this code. Rests
+// on court and sound.
 #![tactic(auto)]
 
 ghost use Rattle.std.specs.Prelude.{◌≤◌};

@@ -7,7 +7,7 @@ use Rattle.court.specs.declared.state.Side.TheVariants.{Left, Right}
 use Rattle.court.specs.Bounds.{Flying, BallIn, InHalf, Within}
 use Rattle.court.specs.Frame.{step_count, step_moved, both_at_once, after_steps}
 use Rattle.court.proofs.Steps.{steps_enough, steps_few, one_step}
-use Rattle.court.specs.Cues.{heard_after}
+use Rattle.court.specs.Cues.{cue_after_steps}
 use Rattle.court.proofs.Stays.{steps_in}
 use Rattle.court.proofs.Heard.{one_heard, heard_more}
 use Rattle.court.proofs.ball.fly.Goals as goal
@@ -57,7 +57,7 @@ returns-then-count-eq1-clause-cue c =
     (simp to_z-of_z at c.step.ensures.cue) ∙ one_heard c.args.left c.args.right c.args.first _ (sym c.count_steps-count.ensures) c.if-count-eq1.true
 
 pub loop-i-init : goal.loop-i-init
-unfolding after_steps heard_after
+unfolding after_steps cue_after_steps
 loop-i-init c = record { ball = refl; cue = refl; steps = refl }
 
 pub invariant_of-flying-in-loop-i : goal.invariant_of-flying-in-loop-i
@@ -88,5 +88,5 @@ returns c =
     let done : c.loop-i.i ≡ step_count c.args.first = omega arith in
     record {
       ball = c.loop-i.invariant.ball ∙ ap (after_steps both_at_once c.args.left c.args.right c.args.first) done;
-      cue = c.loop-i.invariant.cue ∙ ap (heard_after c.args.left c.args.right c.args.first) done;
+      cue = c.loop-i.invariant.cue ∙ ap (cue_after_steps c.args.left c.args.right c.args.first) done;
     }

@@ -2,7 +2,7 @@ use Rattle.std.proofs.Common.{◌≡◌, true, false, ℤ, pos, ◌+ℤ◌, ◌-
 use Rattle.std.proofs.lemmas.Int.{to_z-of_z}
 use lib.Signed.{lt_z}
 use Rattle.court.specs.Frame.{ball_moved, size}
-use Rattle.court.specs.Cues.{wall_heard}
+use Rattle.court.specs.Cues.{cue_at_wall}
 use Rattle.court.specs.declared.state.Ball.{Ball}
 use Rattle.court.proofs.Signs.{sub_neg}
 use Rattle.court.proofs.ball.move_ball.Goals as goal
@@ -60,7 +60,7 @@ returns-else-y-2-clause-ball c =
     simp (to_z-of_z, t, u)
 
 pub returns-then-y-clause-cue : goal.returns-then-y-clause-cue
-unfolding wall_heard
+unfolding cue_at_wall
 returns-then-y-clause-cue c =
     let fy : SFits w32 c.args.from.ball.y = search rules in
     let fmy : SFits w32 c.args.by_y = search rules in
@@ -69,7 +69,7 @@ returns-then-y-clause-cue c =
     simp t
 
 pub returns-then-y-2-clause-cue : goal.returns-then-y-2-clause-cue
-unfolding wall_heard
+unfolding cue_at_wall
 returns-then-y-2-clause-cue c =
     let fy : SFits w32 c.args.from.ball.y = search rules in
     let fmy : SFits w32 c.args.by_y = search rules in
@@ -79,7 +79,7 @@ returns-then-y-2-clause-cue c =
     simp (t, u)
 
 pub returns-else-y-2-clause-cue : goal.returns-else-y-2-clause-cue
-unfolding wall_heard
+unfolding cue_at_wall
 returns-else-y-2-clause-cue c =
     let fy : SFits w32 c.args.from.ball.y = search rules in
     let fmy : SFits w32 c.args.by_y = search rules in

@@ -2,7 +2,7 @@ use Rattle.std.proofs.Common.{◌≡◌, ◌+◌, sym, ap, ◌∙◌, subst, ari
 use Rattle.std.proofs.lemmas.Int.{to_z-of_z}
 use Rattle.court.specs.Bounds.{Flying}
 use Rattle.court.specs.Frame.{ball_moved, both_at_once}
-use Rattle.court.specs.Cues.{wall_heard, paddles_heard}
+use Rattle.court.specs.Cues.{cue_at_wall, cue_at_paddles}
 use Rattle.court.proofs.Stays.{moved_in, met_in, flies_on}
 use Rattle.court.proofs.ball.FlyingBall.step.Goals as goal
 
@@ -43,7 +43,7 @@ returns-clause-cue c =
     let r = c.args.right in
     let moved = c.move_ball-moved.result in
     let m : moved.ball ≡ ball_moved c.args.by_x c.args.by_y s.ball = simp to_z-of_z at c.move_ball-moved.ensures.ball in
-    let w : moved.cue ≡ wall_heard c.args.by_y s.ball s.cue = simp to_z-of_z at c.move_ball-moved.ensures.cue in
+    let w : moved.cue ≡ cue_at_wall c.args.by_y s.ball s.cue = simp to_z-of_z at c.move_ball-moved.ensures.cue in
     c.meet_paddles.ensures.cue
-    ∙ ap (λ b. paddles_heard l r b moved.cue) m
-    ∙ ap (paddles_heard l r (ball_moved c.args.by_x c.args.by_y s.ball)) w
+    ∙ ap (λ b. cue_at_paddles l r b moved.cue) m
+    ∙ ap (cue_at_paddles l r (ball_moved c.args.by_x c.args.by_y s.ball)) w

@@ -2,7 +2,7 @@ use Rattle.std.proofs.Common.{◌≡◌, ℕ, ◌<◌, ◌≤◌, sym, ap, ◌�
 use Rattle.std.specs.Prelude.{unsigned_abs}
 use Rattle.std.proofs.lemmas.Int.{to_z-of_z}
 use Rattle.court.specs.Frame.{step_count, step_length, along, ball_moved, both_at_once}
-use Rattle.court.specs.Cues.{wall_heard, paddles_heard}
+use Rattle.court.specs.Cues.{cue_at_wall, cue_at_paddles}
 use Rattle.court.proofs.Steps.{steps_some, step_short_x, step_short_y}
 use Rattle.court.proofs.ball.FlyingBall.step_of.Goals as goal
 
@@ -70,7 +70,7 @@ returns-clause-cue c =
     let y = length_is _ _ _ _ _ _ c.length_of_step-by_y.ensures e c.requires.counted in
     let by_x = (simp to_z-of_z at c.directed.ensures.value) ∙ ap (along b.dx) x in
     let by_y = (simp to_z-of_z at c.directed-2.ensures.value) ∙ ap (along b.dy) y in
-    let heard : c.step.result.heard.cue ≡ paddles_heard l r (ball_moved c.directed.result c.directed-2.result b) (wall_heard c.directed-2.result b cue) =
+    let heard : c.step.result.heard.cue ≡ cue_at_paddles l r (ball_moved c.directed.result c.directed-2.result b) (cue_at_wall c.directed-2.result b cue) =
     simp to_z-of_z at c.step.ensures.cue in
-    heard ∙ ap (λ m. paddles_heard l r (ball_moved m c.directed-2.result b) (wall_heard c.directed-2.result b cue)) by_x
-    ∙ ap (λ m. paddles_heard l r (ball_moved (along b.dx (step_length (unsigned_abs first.dx) (step_count first) c.args.i)) m b) (wall_heard m b cue)) by_y
+    heard ∙ ap (λ m. cue_at_paddles l r (ball_moved m c.directed-2.result b) (cue_at_wall c.directed-2.result b cue)) by_x
+    ∙ ap (λ m. cue_at_paddles l r (ball_moved (along b.dx (step_length (unsigned_abs first.dx) (step_count first) c.args.i)) m b) (cue_at_wall m b cue)) by_y

@@ -2,7 +2,7 @@ use Rattle.std.proofs.Common.{◌≡◌, ℕ, true, false, eqb, sym, ap, ◌∙�
 use Rattle.std.proofs.lemmas.Bool.{eq-eqb, ne_eqb}
 use Rattle.court.specs.declared.cue.Cue.TheVariants.{Nothing}
 use Rattle.court.specs.declared.state.State.{State}
-use Rattle.court.specs.Cues.{ball_heard, cue_of}
+use Rattle.court.specs.Cues.{ball_cue, cue_of}
 use Rattle.court.specs.Frame.{over, advanced, advanced_by, ball_played, waited, paddles_moved}
 use Rattle.court.proofs.Stays.{frame_rests}
 use Rattle.court.proofs.bounded.Court.frame.Goals as goal
@@ -19,7 +19,7 @@ heard_rests : (s : State) (a b : ℕ) → over s ≡ true → Nothing ≡ cue_of
 unfolding cue_of
 heard_rests s a b e = simp e
 
-heard_played : (s : State) (a b : ℕ) → over s ≡ false → s.wait ≡ 0 → ball_heard (paddles_moved s a b) ≡ cue_of s a b
+heard_played : (s : State) (a b : ℕ) → over s ≡ false → s.wait ≡ 0 → ball_cue (paddles_moved s a b) ≡ cue_of s a b
 unfolding cue_of
 heard_played s a b e w = let f : eqb s.wait 0 ≡ true = eq-eqb s.wait 0 w in simp (e, f)
 
@@ -52,5 +52,5 @@ returns-else-moved-ne0-clause-value c =
 pub returns-else-moved-ne0-clause-cue : goal.returns-else-moved-ne0-clause-cue
 returns-else-moved-ne0-clause-cue c =
     let m = c.move_paddles-moved.ensures in
-    c.play_ball.ensures.cue ∙ ap ball_heard m
+    c.play_ball.ensures.cue ∙ ap ball_cue m
     ∙ heard_played c.args.self.state _ _ (sym c.if-is_over.ensures) (sym (ap (λ (t : State). t.wait) m) ∙ c.if-moved-ne0.false)

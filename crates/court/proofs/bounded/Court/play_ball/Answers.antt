@@ -3,7 +3,7 @@ use Rattle.court.specs.declared.state.Ball.{Ball}
 use Rattle.court.specs.declared.state.State.{State}
 use Rattle.court.specs.Bounds.{Flying, InCourt, InPlay}
 use Rattle.court.specs.Frame.{step_count, after_steps, both_at_once, with_ball, ends_met, ball_played_by}
-use Rattle.court.specs.Cues.{ends_heard, ball_heard}
+use Rattle.court.specs.Cues.{cue_at_ends, ball_cue}
 use Rattle.court.proofs.Stays.{flown_in, ends_in, in_play}
 use Rattle.court.proofs.bounded.Court.play_ball.Goals as goal
 
@@ -25,9 +25,9 @@ returns-clause-value c =
     c.meet_ends-ended.ensures.state ∙ ap (λ b. ends_met (with_ball b c.args.self.state)) c.fly-flown.ensures.ball
 
 pub returns-clause-cue : goal.returns-clause-cue
-unfolding ball_heard
+unfolding ball_cue
 returns-clause-cue c =
     let s = c.args.self.state in
     c.meet_ends-ended.ensures.cue
-    ∙ ap (λ b. ends_heard b c.fly-flown.result.cue) c.fly-flown.ensures.ball
-    ∙ ap (ends_heard (after_steps both_at_once s.left s.right s.ball (step_count s.ball))) c.fly-flown.ensures.cue
+    ∙ ap (λ b. cue_at_ends b c.fly-flown.result.cue) c.fly-flown.ensures.ball
+    ∙ ap (cue_at_ends (after_steps both_at_once s.left s.right s.ball (step_count s.ball))) c.fly-flown.ensures.cue

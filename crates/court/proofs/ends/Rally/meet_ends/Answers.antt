@@ -2,7 +2,7 @@ use Rattle.std.proofs.Common.{◌≡◌, true, false, pos, w32, SFits, rules}
 use Rattle.std.proofs.lemmas.Int.{to_z-of_z}
 use lib.Signed.{lt_z}
 use Rattle.court.specs.Frame.{ends_met}
-use Rattle.court.specs.Cues.{ends_heard}
+use Rattle.court.specs.Cues.{cue_at_ends}
 use Rattle.court.proofs.ends.Rally.meet_ends.Goals as goal
 
 pub returns-then-x-clause-state : goal.returns-then-x-clause-state
@@ -23,7 +23,7 @@ returns-then-x-2-clause-state c =
     simp (t, u) c.meet_end-then-x-2.ensures.state
 
 pub returns-then-x-clause-cue : goal.returns-then-x-clause-cue
-unfolding ends_heard
+unfolding cue_at_ends
 returns-then-x-clause-cue c =
     let x = c.args.self.state.ball.x in
     let fx : SFits w32 x = search rules in
@@ -31,7 +31,7 @@ returns-then-x-clause-cue c =
     simp t c.meet_end.ensures.cue
 
 pub returns-then-x-2-clause-cue : goal.returns-then-x-2-clause-cue
-unfolding ends_heard
+unfolding cue_at_ends
 returns-then-x-2-clause-cue c =
     let x = c.args.self.state.ball.x in
     let fx : SFits w32 x = search rules in
