@@ -1,0 +1,2 @@
+pub mod Lanes
+pub mod Lent

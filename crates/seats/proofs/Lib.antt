@@ -1,0 +1,9 @@
+pub mod Packets
+pub mod Least
+pub mod Plays
+pub mod OnePeer
+pub mod Pairs
+pub mod Turns
+pub mod Networks
+pub mod Arrivals
+pub mod Sixty
