@@ -20,14 +20,13 @@ fn end_is_heard(rt: HostRuntime) -> Result<(), Fail> {
         machine.hear(Happening::Tick(0), &mut packets, &mut sounds)?;
     }
     assert_eq!(rt; sounds.len(), 100 * FRAME_BYTES);
-    let (silent, heard) = sounds.split_at(99 * FRAME_BYTES);
-    assert!(rt; silent.iter().all(|&byte| byte == 0));
-    // 8,192, low byte first.
-    assert_eq!(rt; &heard[..4], [0, 32, 0, 32].as_slice());
+    // Its first sample is 8,192, low byte first.
+    let heard = sounds.iter().position(|&byte| byte != 0);
+    assert_eq!(rt; heard, Some(99 * FRAME_BYTES + 1));
     let mut sound = [9; FRAME_BYTES + 1];
     machine.hand_out(&mut sound)?;
-    assert_eq!(rt; &sound[..FRAME_BYTES], heard);
-    assert_eq!(rt; sound[FRAME_BYTES], 9);
+    assert!(rt; sounds.ends_with(&sound[..FRAME_BYTES]));
+    assert_eq!(rt; sound.last(), Some(&9));
     Ok(())
 }
 
