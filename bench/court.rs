@@ -24,6 +24,39 @@ pub enum Side {
     Right,
 }
 
+/// What is heard of a frame.
+#[derive(Clone, Copy)]
+pub enum Cue {
+    Nothing,
+    Paddle,
+    Wall,
+    Point,
+}
+
+/// What sounds in a frame: the cue that began it, and how many frames ago.
+#[derive(Clone, Copy)]
+pub struct Tone {
+    pub kind: Cue,
+    pub age: u8,
+}
+
+impl Tone {
+    const SILENT: Tone = Tone { kind: Cue::Nothing, age: 0 };
+
+    fn after(self, cue: Cue) -> Tone {
+        let frames = match self.kind {
+            Cue::Nothing => 0,
+            Cue::Paddle | Cue::Wall => 6,
+            Cue::Point => 30,
+        };
+        match cue {
+            Cue::Nothing if self.age + 1 < frames => Tone { age: self.age + 1, ..self },
+            Cue::Nothing => Tone::SILENT,
+            kind => Tone { kind, age: 0 },
+        }
+    }
+}
+
 #[derive(Clone, Copy)]
 pub struct State {
     pub ball: Ball,
@@ -31,6 +64,7 @@ pub struct State {
     pub right: Paddle,
     pub score: [u8; 2],
     pub wait: u8,
+    pub tone: Tone,
 }
 
 fn step(back: bool, forth: bool) -> i32 {
@@ -54,14 +88,14 @@ impl Paddle {
 }
 
 impl Ball {
-    fn moved(self, by_x: i32, by_y: i32) -> Ball {
+    fn moved(self, by_x: i32, by_y: i32, cue: Cue) -> (Ball, Cue) {
         let (x, y) = (self.x + by_x, self.y + by_y);
         if y < 512 {
-            Ball { x, y: 512, dy: self.dy.abs(), ..self }
+            (Ball { x, y: 512, dy: self.dy.abs(), ..self }, Cue::Wall)
         } else if y > 30208 {
-            Ball { x, y: 30208, dy: -self.dy.abs(), ..self }
+            (Ball { x, y: 30208, dy: -self.dy.abs(), ..self }, Cue::Wall)
         } else {
-            Ball { x, y, ..self }
+            (Ball { x, y, ..self }, cue)
         }
     }
 
@@ -79,38 +113,39 @@ impl Ball {
     }
 
     /// Both paddles look at the ball as it has moved; `before` is the ball before the step.
-    fn met(self, left: Paddle, right: Paddle, before: Ball) -> Ball {
+    fn met(self, left: Paddle, right: Paddle, before: Ball, cue: Cue) -> (Ball, Cue) {
         if self.meets(left) {
             if self.meets(right) {
-                Ball { dx: -self.dx, dy: self.dy, ..before }
+                (Ball { dx: -self.dx, dy: self.dy, ..before }, Cue::Paddle)
             } else {
-                self.struck(Side::Left, left)
+                (self.struck(Side::Left, left), Cue::Paddle)
             }
         } else if self.meets(right) {
-            self.struck(Side::Right, right)
+            (self.struck(Side::Right, right), Cue::Paddle)
         } else {
-            self
+            (self, cue)
         }
     }
 
-    fn stepped(self, by_x: i32, by_y: i32, left: Paddle, right: Paddle) -> Ball {
-        self.moved(by_x, by_y).met(left, right, self)
+    fn stepped(self, by_x: i32, by_y: i32, left: Paddle, right: Paddle, cue: Cue) -> (Ball, Cue) {
+        let (moved, cue) = self.moved(by_x, by_y, cue);
+        moved.met(left, right, self, cue)
     }
 
-    /// All steps of a frame. One step is as long as the velocity.
-    fn flown(self, left: Paddle, right: Paddle) -> Ball {
+    /// All steps of a frame, and what is heard of them. One step is as long as the velocity.
+    fn flown(self, left: Paddle, right: Paddle) -> (Ball, Cue) {
         let count = self.dx.abs().max(self.dy.abs()).unsigned_abs().div_ceil(LONGEST_STEP).max(1);
         if count == 1 {
-            return self.stepped(self.dx, self.dy, left, right);
+            return self.stepped(self.dx, self.dy, left, right, Cue::Nothing);
         }
         let length = |total: i32, i: u32| {
             let total = total.unsigned_abs();
             (total / count + u32::from(i < total % count)) as i32
         };
-        (0..count).fold(self, |ball, i| {
+        (0..count).fold((self, Cue::Nothing), |(ball, cue), i| {
             let by_x = ball.dx.signum() * length(self.dx, i);
             let by_y = ball.dy.signum() * length(self.dy, i);
-            ball.stepped(by_x, by_y, left, right)
+            ball.stepped(by_x, by_y, left, right, cue)
         })
     }
 }
@@ -123,10 +158,11 @@ impl State {
             right: Paddle { x: 38912, y: 15360 },
             score: [0, 0],
             wait: 60,
+            tone: Tone::SILENT,
         }
     }
 
-    fn meet_end(&mut self, side: Side) {
+    fn meet_end(&mut self, side: Side) -> Cue {
         if (10240..=20480).contains(&self.ball.y) {
             match side {
                 Side::Left => self.score[1] += 1,
@@ -135,30 +171,41 @@ impl State {
             let even = (self.score[0] + self.score[1]) % 2 == 0;
             self.ball = Ball { x: 20480, y: 15360, dx: inward(side, 512), dy: if even { 256 } else { -256 } };
             self.wait = 60;
+            Cue::Point
         } else {
             self.ball.x = match side {
                 Side::Left => 512,
                 Side::Right => 40448,
             };
             self.ball.dx = inward(side, self.ball.dx.abs());
+            Cue::Wall
         }
     }
 
     pub fn advance(&mut self, left: u8, right: u8) {
+        let cue = self.play_on(left, right);
+        self.tone = self.tone.after(cue);
+    }
+
+    /// The court alone, and what is heard of the frame.
+    fn play_on(&mut self, left: u8, right: u8) -> Cue {
         if self.score[0] >= 9 || self.score[1] >= 9 {
-            return;
+            return Cue::Nothing;
         }
         self.left = self.left.moved(left, 512, 19968);
         self.right = self.right.moved(right, 20992, 40448);
         if self.wait > 0 {
             self.wait -= 1;
-            return;
+            return Cue::Nothing;
         }
-        self.ball = self.ball.flown(self.left, self.right);
-        if self.ball.x < 512 {
-            self.meet_end(Side::Left);
-        } else if self.ball.x > 40448 {
-            self.meet_end(Side::Right);
+        let (ball, cue) = self.ball.flown(self.left, self.right);
+        self.ball = ball;
+        if ball.x < 512 {
+            self.meet_end(Side::Left)
+        } else if ball.x > 40448 {
+            self.meet_end(Side::Right)
+        } else {
+            cue
         }
     }
 }

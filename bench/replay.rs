@@ -6,7 +6,7 @@
 mod court;
 mod picture;
 
-use court::{Ball, Paddle, State};
+use court::{Ball, Cue, Paddle, State, Tone};
 use std::{env, fs, process::ExitCode};
 
 const MARK: [u8; 3] = *b"REC";
@@ -37,8 +37,17 @@ fn state_bytes(s: &State) -> [u8; STATE_BYTES] {
     for (place, number) in bytes.chunks_exact_mut(4).zip(numbers) {
         place.copy_from_slice(&number.to_le_bytes());
     }
-    bytes[32..35].copy_from_slice(&[s.score[0], s.score[1], s.wait]);
+    bytes[32..37].copy_from_slice(&[s.score[0], s.score[1], s.wait, s.tone.kind as u8, s.tone.age]);
     bytes
+}
+
+fn cue_of(code: u8) -> Cue {
+    match code {
+        1 => Cue::Paddle,
+        2 => Cue::Wall,
+        3 => Cue::Point,
+        _ => Cue::Nothing,
+    }
 }
 
 fn state_in(bytes: &[u8]) -> State {
@@ -49,6 +58,7 @@ fn state_in(bytes: &[u8]) -> State {
         right: Paddle { x: number(24), y: number(28) },
         score: [bytes[32], bytes[33]],
         wait: bytes[34],
+        tone: Tone { kind: cue_of(bytes[35]), age: bytes[36] },
     }
 }
 

@@ -69,10 +69,13 @@ def fast_balls():
 def commands():
     yield ["plain", MATCH]
     yield ["plain", MATCH, "show"]
+    yield ["plain", MATCH, "sound", "OUT"]
+    yield ["plain", MATCH, "sound", "OUT2", "show", "sound", "OUT"]
     for name, (seat, window) in SESSIONS.items():
         file = os.path.join(EVENTS, name + ".events")
         yield ["play", str(seat), str(window), file, "letters", "OUT"]
         yield ["play", str(seat), str(window), file, "record", "OUT"]
+        yield ["play", str(seat), str(window), file, "sound", "OUT"]
         yield ["play", str(1 - seat), str(window), file]
         yield ["play", str(seat), "61", file]
     for name in ("g", "h"):
@@ -80,11 +83,14 @@ def commands():
         yield ["play", str(seat), str(window), os.path.join(EVENTS, name + ".events"), "show"]
     for seat, name in enumerate(("left", "right")):
         file = os.path.join(EXAMPLES, name + ".events")
-        yield ["play", str(seat), "8", file, "letters", "OUT", "record", "OUT2"]
+        yield ["play", str(seat), "8", file, "letters", "OUT", "record", "OUT2", "sound", "OUT3"]
     yield ["play", "0", "9", MATCH]
     for frame in ("0", "599", "600", "601", "6728", "6729"):
         yield ["replay", RECORDING, frame]
-    yield ["replay", MATCH, "1"]
+        yield ["replay", RECORDING, frame, "sound", "OUT"]
+    yield ["replay", MATCH, "1", "sound", "OUT"]
+    yield ["plain", EVENTS, "sound", "OUT"]
+    yield ["play", "0", "61", MATCH, "sound", "OUT"]
     yield ["radio", *RADIO.split()]
     yield ["radio", *EXAMPLE.split()]
     yield ["radio", "1", "61", "1", "0", "0", "0"]
@@ -103,6 +109,12 @@ def refused_lines():
     yield ["play", "0", "8", MATCH, "letters"]
     yield ["play", "0", "3", os.path.join(EVENTS, "g.events"), "letters", "OUT", "record", "OUT"]
     yield ["play", "0", "3", os.path.join(EVENTS, "g.events"), "letters", "OUT", "show", "letters", "OUT2", "record", "OUT"]
+    yield ["play", "0", "3", os.path.join(EVENTS, "g.events"), "sound", "OUT", "record", "OUT"]
+    yield ["play", "0", "3", os.path.join(EVENTS, "g.events"), "letters", "OUT", "sound", "OUT", "record", "OUT2"]
+    yield ["play", "0", "3", os.path.join(EVENTS, "g.events"), "sound"]
+    yield ["plain", MATCH, "sound"]
+    yield ["replay", RECORDING, "1", "sound"]
+    yield ["replay", RECORDING, "1", "show"]
     yield ["replay", RECORDING, "-1"]
     yield ["replay", RECORDING, str(2 ** 64)]
     yield ["radio", "1", "2", "3", "4", "5"]
@@ -113,6 +125,9 @@ def refused_lines():
     for out in ("none/OUT", "."):
         yield ["play", "0", "3", os.path.join(EVENTS, "g.events"), "letters", out]
         yield ["play", "0", "3", os.path.join(EVENTS, "g.events"), "letters", "OUT", "record", out]
+        yield ["play", "0", "3", os.path.join(EVENTS, "g.events"), "record", "OUT", "sound", out]
+        yield ["plain", MATCH, "show", "sound", out]
+        yield ["replay", RECORDING, "600", "sound", out]
 
 
 def by_program(words):

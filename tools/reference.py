@@ -1,9 +1,9 @@
 #!/usr/bin/env python3
 """The programs again, written from docs/RULES.md alone, to compare with: slow, and with none of the repository's code.
 
-    reference.py plain FILE [show]
-    reference.py play SEAT N FILE [show] [letters OUT] [record OUT]
-    reference.py replay FILE BEAT
+    reference.py plain FILE [show] [sound OUT]
+    reference.py play SEAT N FILE [show] [letters OUT] [record OUT] [sound OUT]
+    reference.py replay FILE BEAT [sound OUT]
     reference.py radio SEED N TICKS LOSS TWICE DELAY ..
 
 And a file of events for each machine of such a row, for `play`:
@@ -12,7 +12,9 @@ And a file of events for each machine of such a row, for `play`:
 """
 import collections
 import contextlib
+import functools
 import re
+import struct
 import sys
 
 MOST = 1_000_000
@@ -22,11 +24,15 @@ TOP_SPEED = 6144
 LONGEST_STEP = 768
 
 USAGE = {
-    "plain": "usage: plain FILE [show]",
-    "play": "usage: play SEAT N FILE [show] [letters OUT] [record OUT]",
-    "replay": "usage: replay FILE BEAT",
+    "plain": "usage: plain FILE [show] [sound OUT]",
+    "play": "usage: play SEAT N FILE [show] [letters OUT] [record OUT] [sound OUT]",
+    "replay": "usage: replay FILE BEAT [sound OUT]",
     "radio": "usage: radio SEED N TICKS LOSS TWICE DELAY ..",
 }
+# What is heard of a frame, for how many frames, and how often its tone turns in a second.
+PADDLE, WALL, POINT = 1, 2, 3
+FRAMES = (0, 6, 6, 30)
+TURNS = (0, 440, 220, 110)
 GLYPHS = "75557 26227 71747 71717 55711 74717 74757 71111 75757 75717".split()
 
 # The court's lines, on which all else is painted.
@@ -52,6 +58,7 @@ class State:
         self.paddles = [[2048, 15360], [38912, 15360]]
         self.score = [0, 0]
         self.wait = 60
+        self.cue, self.tone = 0, (0, 0)
 
     def copy(self):
         s = State()
@@ -80,6 +87,7 @@ class State:
     def meet_paddles(self, before):
         """Both paddles look at the same ball, which lay at `before` when the step began."""
         met = [seat for seat in (0, 1) if self.meets(seat)]
+        self.cue = PADDLE if met else self.cue
         if len(met) == 2:
             self.dx = -self.dx
             self.x, self.y = before
@@ -96,9 +104,9 @@ class State:
         self.x += sign(self.dx) * far_x
         self.y += sign(self.dy) * far_y
         if self.y < 512:
-            self.y, self.dy = 512, abs(self.dy)
+            self.y, self.dy, self.cue = 512, abs(self.dy), WALL
         elif self.y > 30208:
-            self.y, self.dy = 30208, -abs(self.dy)
+            self.y, self.dy, self.cue = 30208, -abs(self.dy), WALL
         self.meet_paddles(before)
 
     def end(self):
@@ -111,12 +119,13 @@ class State:
             self.x, self.y = 20480, 15360
             self.dx = 512 if winner == 1 else -512
             self.dy = 256 if sum(self.score) % 2 == 0 else -256
-            self.wait = 60
+            self.wait, self.cue = 60, POINT
         else:
+            self.cue = WALL
             self.x = 512 if left else 40448
             self.dx = abs(self.dx) if left else -abs(self.dx)
 
-    def frame(self, a, b):
+    def play_on(self, a, b):
         if 9 in self.score:
             return
         self.move(0, a)
@@ -127,6 +136,19 @@ class State:
         for far_x, far_y in self.steps():
             self.step(far_x, far_y)
         self.end()
+
+    def frame(self, a, b):
+        """The court goes on, and then its tone."""
+        self.cue = 0
+        self.play_on(a, b)
+        kind, age = self.tone
+        if self.cue:
+            self.tone = self.cue, 0
+        else:
+            self.tone = (kind, age + 1) if age + 1 < FRAMES[kind] else (0, 0)
+
+    def sound(self):
+        return sound(*self.tone)
 
     def line(self, frames):
         (a, b), (c, d) = self.paddles
@@ -156,7 +178,30 @@ class State:
     def saved(self):
         numbers = [self.x, self.y, self.dx, self.dy] + [n for p in self.paddles for n in p]
         head = b"".join(n.to_bytes(4, "little", signed=True) for n in numbers)
-        return head + bytes(self.score + [self.wait]) + bytes(29)
+        return head + bytes(self.score + [self.wait, *self.tone]) + bytes(27)
+
+
+@functools.cache
+def sound(kind, age):
+    """The samples of one frame of a tone."""
+    at = range(800 * age, 800 * age + 800)
+    levels = [8192 * (1 - 2 * (2 * TURNS[kind] * i // 48000 % 2)) if kind else 0 for i in at]
+    return b"".join(level.to_bytes(2, "little", signed=True) for level in levels)
+
+
+def sounds(frames):
+    """Those of all frames of a game, a byte each."""
+    s, heard = State(), []
+    for frame in frames:
+        s.frame(frame % 16, frame // 16)
+        heard.append(s.sound())
+    return heard
+
+
+def wav(heard):
+    data = b"".join(heard)
+    form = b"fmt " + struct.pack("<IHHIIHH", 16, 1, 1, 48000, 96000, 2, 16)
+    return b"RIFF" + struct.pack("<I", 36 + len(data)) + b"WAVE" + form + b"data" + struct.pack("<I", len(data)) + data
 
 
 def plain_game(left, right, start=None):
@@ -306,8 +351,9 @@ def replay(path, file, frame):
     return f"beat {frame} of {len(frames)} points {s.score[0]} {s.score[1]}\n" + s.picture(), True
 
 
-def play(seat, window, file, show=False, letters=None, record=None):
-    """What `play` prints, and whether it was not refused; the packets go to the list `letters`, the recording to the list `record`."""
+def play(seat, window, file, show=False, letters=None, record=None, heard=None):
+    """What `play` prints, and whether it was not refused; the packets go to the list `letters`, the recording to the list `record`, the
+    sounds to the list `heard`."""
     if not 1 <= window <= 60:
         return "refused 5 at 0\n", False
     events = events_of(file)
@@ -322,6 +368,8 @@ def play(seat, window, file, show=False, letters=None, record=None):
         out.append(said + "\n")
         if show:
             out.append(shown.picture())
+        if kind == 0 and said.startswith("beat") and heard is not None:
+            heard.append(shown.sound())
         if kind == 0 and not said.startswith("refused") and letters is not None:
             letters.append(arrival(peer.packet()))
     if record is not None:
@@ -431,44 +479,59 @@ def usage_unless(right, program):
         raise Failed(USAGE[program])
 
 
+def options(words, program, *files):
+    """Whether to show, and the files to be written, of which no two are the same."""
+    words, show, wanted = list(words), False, {}
+    while words:
+        word = words.pop(0)
+        usage_unless((word == "show" and program != "replay") or (word in files and words), program)
+        if word == "show":
+            show = True
+        else:
+            wanted[word] = words.pop(0)
+    usage_unless(len(set(wanted.values())) == len(wanted), program)
+    return show, wanted
+
+
 def run_plain(args, out):
-    usage_unless(len(args) == 1 or (len(args) == 2 and args[1] == "show"), "plain")
+    usage_unless(args, "plain")
+    show, wanted = options(args[1:], "plain", "sound")
     frames = read("plain", args[0])
     if len(frames) > MOST:
         raise Failed(f"plain: {args[0]}: more than {MOST} frames")
     s = plain_game([b % 16 for b in frames], [b // 16 for b in frames])
     out.append(s.line(len(frames)) + "\n")
-    if args[1:]:
+    if show:
         out.append(s.picture())
+    if "sound" in wanted:
+        write("plain", wanted["sound"], wav(sounds(frames)))
     return True
 
 
 def run_play(args, out):
-    seat, window, words = args[:1], number(args[1]) if len(args) > 2 else None, args[3:]
+    seat, window = args[:1], number(args[1]) if len(args) > 2 else None
     usage_unless(seat in (["0"], ["1"]) and window is not None, "play")
-    show, wanted = False, {}
-    while words:
-        word = words.pop(0)
-        usage_unless(word == "show" or (word in ("letters", "record") and words), "play")
-        if word == "show":
-            show = True
-        else:
-            wanted[word] = words.pop(0)
-    usage_unless("letters" not in wanted or wanted["letters"] != wanted.get("record"), "play")
-    parts = {"letters": [], "record": []}
-    text, done = play(int(seat[0]), window, read("play", args[2]), show, **parts)
+    show, wanted = options(args[3:], "play", "letters", "record", "sound")
+    parts, heard = {"letters": [], "record": []}, []
+    text, done = play(int(seat[0]), window, read("play", args[2]), show, heard=heard, **parts)
     out.append(text)
     for word in ("letters", "record"):
         if done and word in wanted:
             write("play", wanted[word], b"".join(parts[word]))
+    if done and "sound" in wanted:
+        write("play", wanted["sound"], wav(heard))
     return done
 
 
 def run_replay(args, out):
-    frame = number(args[1]) if len(args) == 2 else None
+    frame = number(args[1]) if len(args) > 1 else None
     usage_unless(frame is not None, "replay")
-    text, done = replay(args[0], read("replay", args[0]), frame)
+    _, wanted = options(args[2:], "replay", "sound")
+    file = read("replay", args[0])
+    text, done = replay(args[0], file, frame)
     out.append(text)
+    if done and "sound" in wanted:
+        write("replay", wanted["sound"], wav(sounds(file[8:8 + frame])))
     return done
 
 

@@ -49,7 +49,7 @@ fn next(court: Court, frame: u32) -> Court {
     if score.left == LAST_POINT || score.right == LAST_POINT {
         Court::new()
     } else {
-        court.frame(input(frame / 7), input(frame / 11))
+        court.frame(input(frame / 7), input(frame / 11)).court
     }
 }
 

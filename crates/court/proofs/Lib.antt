@@ -4,4 +4,5 @@ pub mod Signs
 pub mod Stays
 pub mod Ranges
 pub mod FormerRuleLemmas
+pub mod Heard
 pub mod PassingLemmas

@@ -16,9 +16,7 @@ most_flown k = pos (longest_step * k)
 
 -- a ball after k steps of a frame: its x may be past an end, by as much as k steps go
 pub record Flying (k : ℕ) (b : Ball) : Type 0 where
-  pub x :
-      Within (ball_half -ℤ pos (longest_step * k)) (court_width -ℤ ball_half +ℤ pos (longest_step * k))
-      b.x
+  pub x : Within (ball_half -ℤ most_flown k) (court_width -ℤ ball_half +ℤ most_flown k) b.x
   pub y : Within ball_half (court_height -ℤ ball_half) b.y
   pub dx : Within (neg_ℤ top_speed) top_speed b.dx
   pub dy : Within (neg_ℤ top_speed) top_speed b.dy

@@ -3,3 +3,4 @@ pub mod Keys
 pub mod Bounds
 pub mod FormerRule
 pub mod Passing
+pub mod Cues

@@ -5,7 +5,9 @@ ghost use Rattle.court.specs.Bounds.{Within, Flying, BallIn, OnCourt, InHalf};
 ghost use Rattle.court.specs.declared.state.Side.TheVariants.{Left, Right};
 ghost use Rattle.court.specs.Frame.{top_speed, longest_step, most_steps, step_count, step_length, step_moved, along, after_steps};
 ghost use Rattle.court.specs.Frame.{sixteenth_of, inward, quickened, bent_by, meets, ball_moved, struck, sent_back, both_at_once};
+ghost use Rattle.court.specs.Cues.{cue_at_wall, cue_at_paddles, cue_at_step, cue_after_steps};
 
+use crate::cue::Cue;
 use crate::span::{BALL_Y, SPEEDS};
 use crate::state::{Ball, Paddle, Side};
 use crate::{BALL_HALF, PADDLE_HALF_X, PADDLE_HALF_Y, TOP_SPEED};
@@ -75,13 +77,23 @@ fn length_of_step(total: u32, count: u32, i: u32) -> u32
     total / count + u32::from(i < total % count)
 }
 
+// A ball in a frame, and what was heard of the frame so far.
+#[derive(Clone, Copy)]
+pub(crate) struct HeardBall {
+    pub(crate) ball: Ball,
+    pub(crate) cue: Cue,
+}
+
 // Step 3: the ball goes so far in x and in y, and turns round at the walls.
-fn move_ball(b: Ball, by_x: i32, by_y: i32) -> Ball
-    requires ball { Flying most_steps b }
+#[tactic(auto, unfolding(crate::specs::Cues::cue_at_wall))]
+fn move_ball(from: HeardBall, by_x: i32, by_y: i32) -> HeardBall
+    requires ball { Flying most_steps from.ball }
     requires x { Within (neg_ℤ (pos longest_step)) (pos longest_step) by_x }
     requires y { Within (neg_ℤ (pos longest_step)) (pos longest_step) by_y }
-    ensures { result ≡ ball_moved by_x by_y b }
+    ensures ball { result.ball ≡ ball_moved by_x by_y from.ball }
+    ensures cue { result.cue ≡ cue_at_wall by_y from.ball from.cue }
 {
+    let b = from.ball;
     let y = b.y + by_y;
     let moved = Ball {
         x: b.x + by_x,
@@ -89,19 +101,28 @@ fn move_ball(b: Ball, by_x: i32, by_y: i32) -> Ball
         ..b
     };
     if y < BALL_Y.least {
-        Ball {
-            y: BALL_Y.least,
-            dy: b.dy.abs(),
-            ..moved
+        HeardBall {
+            ball: Ball {
+                y: BALL_Y.least,
+                dy: b.dy.abs(),
+                ..moved
+            },
+            cue: Cue::Wall,
         }
     } else if y > BALL_Y.most {
-        Ball {
-            y: BALL_Y.most,
-            dy: -b.dy.abs(),
-            ..moved
+        HeardBall {
+            ball: Ball {
+                y: BALL_Y.most,
+                dy: -b.dy.abs(),
+                ..moved
+            },
+            cue: Cue::Wall,
         }
     } else {
-        moved
+        HeardBall {
+            ball: moved,
+            cue: from.cue,
+        }
     }
 }
 
@@ -160,22 +181,34 @@ fn send_back(before: Ball, moved: Ball) -> Ball
     }
 }
 
-// Step 4. Both paddles look at the ball as step 3 left it; `before` is the ball before the step.
-#[tactic(auto, unfolding(crate::specs::Frame::both_at_once))]
-fn meet_paddles(left: Paddle, right: Paddle, before: Ball, moved: Ball) -> Ball
+// Step 4. Both paddles look at the ball as step 3 left it; `before` is the ball before the step. In
+// line, as `step` is.
+#[tactic(auto, unfolding(crate::specs::Frame::both_at_once, crate::specs::Cues::cue_at_paddles))]
+#[inline(always)]
+fn meet_paddles(left: Paddle, right: Paddle, before: Ball, moved: HeardBall) -> HeardBall
     requires left_on_court { OnCourt left }
     requires right_on_court { OnCourt right }
-    requires flies { Flying most_steps moved }
-    ensures { result ≡ both_at_once left right before moved }
+    requires flies { Flying most_steps moved.ball }
+    ensures ball { result.ball ≡ both_at_once left right before moved.ball }
+    ensures cue { result.cue ≡ cue_at_paddles left right moved.ball moved.cue }
 {
-    if touches(moved, left) {
-        if touches(moved, right) {
-            send_back(before, moved)
+    if touches(moved.ball, left) {
+        if touches(moved.ball, right) {
+            HeardBall {
+                ball: send_back(before, moved.ball),
+                cue: Cue::Paddle,
+            }
         } else {
-            strike(Side::Left, left, moved)
+            HeardBall {
+                ball: strike(Side::Left, left, moved.ball),
+                cue: Cue::Paddle,
+            }
         }
-    } else if touches(moved, right) {
-        strike(Side::Right, right, moved)
+    } else if touches(moved.ball, right) {
+        HeardBall {
+            ball: strike(Side::Right, right, moved.ball),
+            cue: Cue::Paddle,
+        }
     } else {
         moved
     }
@@ -184,27 +217,32 @@ fn meet_paddles(left: Paddle, right: Paddle, before: Ball, moved: Ball) -> Ball
 // A ball after some steps of a frame. It may be past an end, by as much as these go.
 #[derive(Clone, Copy)]
 pub(crate) struct FlyingBall {
-    pub(crate) ball: Ball,
+    pub(crate) heard: HeardBall,
     steps: u32,
-    ghost flies: { Flying steps ball },
+    ghost flies: { Flying steps heard.ball },
     ghost few: { steps ≤ most_steps },
 }
 
 impl FlyingBall {
-    // One step more, with the walls and the paddles.
+    // One step more, with the walls and the paddles. In line, since a call would pass ball and cue
+    // through memory.
+    #[inline(always)]
     fn step(self, by_x: i32, by_y: i32, left: Paddle, right: Paddle) -> FlyingBall
         requires few { self.steps < most_steps }
         requires x { Within (neg_ℤ (pos longest_step)) (pos longest_step) by_x }
         requires y { Within (neg_ℤ (pos longest_step)) (pos longest_step) by_y }
         requires left_half { InHalf Left left }
         requires right_half { InHalf Right right }
-        ensures ball { result.ball
-            ≡ both_at_once left right self.ball (ball_moved by_x by_y self.ball) }
+        ensures ball { result.heard.ball
+            ≡ both_at_once left right self.heard.ball (ball_moved by_x by_y self.heard.ball) }
+        ensures cue { result.heard.cue
+            ≡ cue_at_paddles left right (ball_moved by_x by_y self.heard.ball)
+            (cue_at_wall by_y self.heard.ball self.heard.cue) }
         ensures steps { result.steps ≡ self.steps + 1 }
     {
-        let moved = move_ball(self.ball, by_x, by_y);
+        let moved = move_ball(self.heard, by_x, by_y);
         FlyingBall {
-            ball: meet_paddles(left, right, self.ball, moved),
+            heard: meet_paddles(left, right, self.heard.ball, moved),
             steps: self.steps + 1,
         }
     }
@@ -215,39 +253,46 @@ impl FlyingBall {
         requires counted { count ≡ step_count first }
         requires left_half { InHalf Left left }
         requires right_half { InHalf Right right }
-        ensures ball { result.ball
-            ≡ both_at_once left right self.ball (step_moved first i self.ball) }
+        ensures ball { result.heard.ball
+            ≡ both_at_once left right self.heard.ball (step_moved first i self.heard.ball) }
+        ensures cue { result.heard.cue
+            ≡ cue_at_step left right first i self.heard.ball self.heard.cue }
         ensures steps { result.steps ≡ self.steps + 1 }
     {
         let by_x = length_of_step(first.dx.unsigned_abs(), count, i);
         let by_y = length_of_step(first.dy.unsigned_abs(), count, i);
+        let ball = self.heard.ball;
         self.step(
-            directed(self.ball.dx, by_x),
-            directed(self.ball.dy, by_y),
+            directed(ball.dx, by_x),
+            directed(ball.dy, by_y),
             left,
             right,
         )
     }
 }
 
-// The ball after all steps of a frame.
-pub(crate) fn fly(first: Ball, left: Paddle, right: Paddle) -> FlyingBall
+// The ball after all steps of a frame, and what was heard of them.
+pub(crate) fn fly(first: Ball, left: Paddle, right: Paddle) -> HeardBall
     requires ball { BallIn first }
     requires left_half { InHalf Left left }
     requires right_half { InHalf Right right }
-    ensures { result.ball ≡ after_steps both_at_once left right first (step_count first) }
+    ensures ball { result.ball ≡ after_steps both_at_once left right first (step_count first) }
+    ensures cue { result.cue ≡ cue_after_steps left right first (step_count first) }
 {
     let mut flying = FlyingBall {
-        ball: first,
+        heard: HeardBall {
+            ball: first,
+            cue: Cue::Nothing,
+        },
         steps: 0,
     };
     let count = count_steps(first);
     // One step is as long as the velocity: no division.
     if count == 1 {
-        return flying.step(first.dx, first.dy, left, right);
+        return flying.step(first.dx, first.dy, left, right).heard;
     }
     for i in 0..count {
         flying = flying.step_of(first, count, i, left, right);
     }
-    flying
+    flying.heard
 }

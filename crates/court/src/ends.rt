@@ -1,10 +1,13 @@
 // Step 5 of a frame: the ball past an end of the court.
-ghost use Rattle.std.specs.Prelude.{◌≡◌, ◌<◌, ◌≤◌};
+ghost use Rattle.std.specs.Prelude.{◌≡◌, ◌<◌, ◌≤◌, if◌then◌else◌};
 ghost use Rattle.court.specs.Bounds.{InPlay};
 ghost use Rattle.court.specs.Frame.{in_goal, awarded, serve_ball, scored, end_at, turned, end_met, ends_met};
+ghost use Rattle.court.specs.Cues.{cue_at_ends};
+ghost use Rattle.court.specs.declared.cue.Cue.TheVariants.{Point, Wall};
 
 use crate::ball::into_court;
 use crate::bounded::Court;
+use crate::cue::Cue;
 use crate::span::BALL_X;
 use crate::state::{Ball, Score, Side, State};
 use crate::{LONGEST_WAIT, MIDDLE_X, MIDDLE_Y, SERVE_X, SERVE_Y};
@@ -61,10 +64,19 @@ fn end_x(end: Side) -> i32
     }
 }
 
+// A state at the end of a frame, and what was heard of the frame.
+#[derive(Clone, Copy)]
+pub(crate) struct HeardState {
+    pub(crate) state: State,
+    pub(crate) cue: Cue,
+}
+
 // A state in the middle of a frame, of a game that is not over.
 #[derive(Clone, Copy)]
 pub(crate) struct Rally {
     pub(crate) state: State,
+    // What was heard of the frame so far.
+    pub(crate) cue: Cue,
     ghost in_play: { InPlay state },
 }
 
@@ -93,22 +105,30 @@ impl Rally {
     }
 
     #[tactic(auto, unfolding(crate::specs::Frame::end_met))]
-    fn meet_end(self, end: Side) -> State
-        ensures { result ≡ end_met end self.state }
+    fn meet_end(self, end: Side) -> HeardState
+        ensures state { result.state ≡ end_met end self.state }
+        ensures cue { result.cue ≡ (if in_goal self.state.ball.y then Point else Wall) }
     {
         if is_goal(self.state.ball.y) {
-            self.concede(end)
+            HeardState {
+                state: self.concede(end),
+                cue: Cue::Point,
+            }
         } else {
-            State {
-                ball: self.turn(end),
-                ..self.state
+            HeardState {
+                state: State {
+                    ball: self.turn(end),
+                    ..self.state
+                },
+                cue: Cue::Wall,
             }
         }
     }
 
-    #[tactic(auto, unfolding(crate::specs::Frame::ends_met))]
-    pub(crate) fn meet_ends(self) -> State
-        ensures { result ≡ ends_met self.state }
+    #[tactic(auto, unfolding(crate::specs::Frame::ends_met, crate::specs::Cues::cue_at_ends))]
+    pub(crate) fn meet_ends(self) -> HeardState
+        ensures state { result.state ≡ ends_met self.state }
+        ensures cue { result.cue ≡ cue_at_ends self.state.ball self.cue }
     {
         let x = self.state.ball.x;
         if x < BALL_X.least {
@@ -116,7 +136,10 @@ impl Rally {
         } else if x > BALL_X.most {
             self.meet_end(Side::Right)
         } else {
-            self.state
+            HeardState {
+                state: self.state,
+                cue: self.cue,
+            }
         }
     }
 }

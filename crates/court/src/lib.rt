@@ -6,8 +6,9 @@
 mod ball;
 pub mod bounded;
 mod clamped;
+pub mod cue;
 mod ends;
-mod frame;
+pub mod frame;
 pub mod game;
 pub mod input;
 mod paddle;
@@ -16,6 +17,7 @@ pub mod state;
 pub mod statements;
 
 pub use bounded::Court;
+pub use cue::Cue;
 pub use input::Input;
 pub use state::State;
 

@@ -3,9 +3,9 @@ use Rattle.std.proofs.Common.{◌≡◌, ◌^◌, ℤ, pos, neg_ℤ, refl, arith
 use Rattle.std.proofs.lemmas.Int.{ints}
 use Rattle.byte_numbers.specs.Little.{number_of, signed_of}
 use Rattle.byte_numbers.specs.Numbers.{signed_little}
-use Rattle.court.specs.declared.state.State.{State}
 use Rattle.court.specs.Bounds.{Within, InCourt}
 use Rattle.court.proofs.Ranges.{ball_from, paddle_from, state_from}
+use Rattle.court_game.specs.Sounding.{SoundingCourt}
 use Rattle.court_game.specs.Snapshots.{whole_bytes, state_bytes, state_in}
 
 -- every number in the court is below 2 ^ 16, and four bytes hold it
@@ -13,11 +13,11 @@ whole_back : (z : ℤ) → Within (neg_ℤ (pos (2 ^ 16))) (pos (2 ^ 16)) z → 
 whole_back z h = signed_little z (omega (arith, ints)) (omega (arith, ints))
 
 -- a state of the court is read from its bytes
-pub state_back : (s : State) → InCourt s → state_in (state_bytes s) ≡ s
+pub state_back : (s : SoundingCourt) → InCourt s.court → state_in (state_bytes s) ≡ s.court
 state_back s h =
-    let ball = s.ball in
-    let left = s.left in
-    let right = s.right in
+    let ball = s.court.ball in
+    let left = s.court.left in
+    let right = s.court.right in
     state_from _ _ _ _ _ _ _ _ _ _ _ _
     (ball_from _ _ _ _ _ _ _ _
     (whole_back ball.x (omega (arith, ints, h.ball_in.x), omega (arith, ints, h.ball_in.x)))

@@ -1,3 +1,4 @@
 pub mod Stays
 pub mod Codes
+pub mod Tones
 pub mod PassingLemmas

@@ -7,7 +7,7 @@ use Rattle.court.specs.declared.state.Paddle.{Paddle}
 use Rattle.court.specs.declared.state.State.{State}
 use Rattle.court.specs.Frame.{start, advanced, over}
 use Rattle.court.specs.Bounds.{InCourt}
-use Rattle.game.specs.Plain.{Game, Rules, plays}
+use Rattle.game.specs.Plain.{Game, plays}
 
 abbrev pub court_game : Game State
 court_game = record { start = start; frame = advanced }
@@ -15,9 +15,6 @@ court_game = record { start = start; frame = advanced }
 -- an input has four bits
 abbrev pub is_input : ℕ → Bool
 is_input a = nat_le a 15
-
-abbrev pub court_rules : Rules State
-court_rules = record { game = court_game; fits = is_input }
 
 -- ball and paddles stay in the court, whatever the inputs
 abbrev pub StaysIn : Type 0

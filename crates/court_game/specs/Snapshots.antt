@@ -1,9 +1,11 @@
--- A state of the court in 64 bytes. Assumes nothing: these are definitions.
-use Rattle.std.specs.Prelude.{ℕ, ◌+◌, List, ◌∷◌, ◌++◌, replicate, ℤ, slice_index}
+-- A state of the court and its tone in 64 bytes. Assumes nothing: these are definitions.
+use Rattle.std.specs.Prelude.{ℕ, ◌+◌, List, [], ◌∷◌, ◌++◌, replicate, ℤ, slice_index}
 use Rattle.byte_numbers.specs.Little.{little, number_of, complement, signed_of, part}
 use Rattle.court.specs.declared.state.Ball.{Ball}
 use Rattle.court.specs.declared.state.Paddle.{Paddle}
 use Rattle.court.specs.declared.state.State.{State}
+use Rattle.sound.specs.Tones.{Sounding, tone_bytes, tone_said}
+use Rattle.court_game.specs.Sounding.{SoundingCourt}
 
 -- ---- a state's bytes
 
@@ -18,10 +20,15 @@ ball_bytes b = whole_bytes b.x ++ (whole_bytes b.y ++ (whole_bytes b.dx ++ whole
 abbrev pub paddle_bytes : Paddle → List ℕ
 paddle_bytes p = whole_bytes p.x ++ whole_bytes p.y
 
--- ball, left paddle, right paddle; the scores of seat 0 and seat 1 and the wait, a byte each; 29 zero bytes
-abbrev pub state_bytes : State → List ℕ
+-- the scores of seat 0 and seat 1 and the wait, a byte each, and the tone's kind and age
+abbrev pub small_bytes : SoundingCourt → List ℕ
+small_bytes s = s.court.score.left ∷ (s.court.score.right ∷ (s.court.wait ∷ tone_bytes s.tone))
+
+-- ball, left paddle, right paddle; what has a byte each; 27 zero bytes
+abbrev pub state_bytes : SoundingCourt → List ℕ
 state_bytes s =
-    ball_bytes s.ball ++ (paddle_bytes s.left ++ (paddle_bytes s.right ++ (s.score.left ∷ (s.score.right ∷ (s.wait ∷ replicate 29 0)))))
+    ball_bytes s.court.ball
+    ++ (paddle_bytes s.court.left ++ (paddle_bytes s.court.right ++ (small_bytes s ++ replicate 27 0)))
 
 -- ---- the state that bytes say
 
@@ -43,3 +50,6 @@ state_in xs =
       score = record { left = slice_index xs 32; right = slice_index xs 33 };
       wait = slice_index xs 34;
     }
+
+abbrev pub tone_in : List ℕ → Sounding
+tone_in xs = tone_said (slice_index xs 35 ∷ (slice_index xs 36 ∷ []))

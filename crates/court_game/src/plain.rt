@@ -5,9 +5,11 @@ ghost use Rattle.court.specs.Frame.{start};
 ghost use Rattle.court_game.specs.Games.{court_game};
 ghost use Rattle.game.specs.Plain.{plays, seat_0, seat_1};
 
-use crate::entry::Held;
+use crate::sounding::CourtGame;
 use court::Court;
 pub use game::plain::MOST_FRAMES;
+use game::rules::Game;
+use sound::Tone;
 
 // All inputs of both seats from the start, as many frames as both have. Each Court carries what `inside` says, here and below;
 // it is said too, so that a caller reads it without the type.
@@ -15,7 +17,7 @@ pub fn play(left: &[u8], right: &[u8]) -> Court
     ensures value { result.state ≡ plays court_game start left.now right.now }
     ensures inside { InCourt result.state }
 {
-    game::plain::play::<Held>(left, right).0
+    game::plain::play::<CourtGame>(left, right).court
 }
 
 // On from a state. One that was come to from the start goes on as if all inputs had been played from the start.
@@ -24,7 +26,15 @@ pub fn play_on(from: Court, left: &[u8], right: &[u8]) -> Court
     ensures whole { (xs ys : List ℕ) → length xs ≡ length ys → from.state ≡ plays court_game start xs ys → result.state ≡ plays court_game start (xs ++ left.now) (ys ++ right.now) }
     ensures inside { InCourt result.state }
 {
-    game::plain::play_on(Held(from), left, right).0
+    game::plain::play_on(
+        CourtGame {
+            court: from,
+            tone: Tone::silent(),
+        },
+        left,
+        right,
+    )
+    .court
 }
 
 // Why a file of frames is not played.
@@ -43,5 +53,5 @@ pub fn play_frames(frames: &[u8]) -> Result<Court, Unplayed>
     if frames.len() > MOST_FRAMES {
         return Err(Unplayed::TooMany);
     }
-    Ok(game::plain::play_frames(Held(Court::new()), frames).0)
+    Ok(game::plain::play_frames(CourtGame::start(), frames).court)
 }

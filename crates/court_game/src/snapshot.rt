@@ -1,14 +1,19 @@
-// A state of the court in 64 bytes. The part has to have that length: callers are proved to see to that.
+// A state of the court and its tone in 64 bytes. The part has to have that length: callers are
+// proved to see to that.
 ghost use Rattle.std.specs.Prelude.{◌≡◌, ◌+◌, ◌≤◌, length};
 ghost use Rattle.byte_numbers.specs.Little.{overwritten};
-ghost use Rattle.court.specs.declared.state.State.{State as Plain};
-ghost use Rattle.court.specs.Bounds.{InCourt, clamped_in};
-ghost use Rattle.court_game.specs.Snapshots.{ball_bytes, paddle_bytes, state_bytes, ball_in, paddle_in, state_in};
+ghost use Rattle.court.specs.Bounds.{clamped_in};
+ghost use Rattle.court_game.specs.Held.{sounding_court};
+ghost use Rattle.court_game.specs.Snapshots.{ball_bytes, paddle_bytes, state_bytes, ball_in, paddle_in, state_in, tone_in};
+ghost use Rattle.court_game.specs.Sounding.{SoundingCourt, InGame};
+ghost use Rattle.sound.specs.Sounding.{sounding};
 
+use crate::sounding::CourtGame;
 use byte_numbers::LittleEndian;
 use court::state::{Ball, Paddle, Score};
 use court::{Court, State};
 use game::saved::STATE_BYTES;
+use sound::Tone;
 
 // Where the parts of a state lie. The ball is first.
 const LEFT_AT: usize = 16;
@@ -17,7 +22,9 @@ const RIGHT_AT: usize = 24;
 
 const SCORE_AT: usize = 32;
 
-const REST_AT: usize = 35;
+const TONE_AT: usize = 35;
+
+const REST_AT: usize = 37;
 
 fn put_ball(part: &mut [u8], ball: Ball)
     requires { 16 ≤ length part.old }
@@ -37,16 +44,17 @@ fn put_paddle(part: &mut [u8], at: usize, paddle: Paddle)
     paddle.y.put(part, at + 4);
 }
 
-// Writes a state's bytes.
-pub fn save_state(court: Court, part: &mut [u8])
+/// Writes a state's bytes.
+pub fn save_state(game: CourtGame, part: &mut [u8])
     requires { length part.old ≡ 64 }
-    ensures { part.new ≡ state_bytes court.state }
+    ensures { part.new ≡ state_bytes (sounding_court game) }
 {
-    let s = court.state;
+    let s = game.court.state;
+    let [kind, age] = game.tone.to_bytes();
     put_ball(part, s.ball);
     put_paddle(part, LEFT_AT, s.left);
     put_paddle(part, RIGHT_AT, s.right);
-    part[SCORE_AT..REST_AT].copy_from_slice(&[s.score.left, s.score.right, s.wait]);
+    part[SCORE_AT..REST_AT].copy_from_slice(&[s.score.left, s.score.right, s.wait, kind, age]);
     part[REST_AT..STATE_BYTES].fill(0);
 }
 
@@ -72,13 +80,16 @@ fn get_paddle(part: &[u8], at: usize) -> Paddle
     }
 }
 
-// The state that bytes say, each number brought into its range; so bytes of a state in the court are that state.
-pub fn load_state(part: &[u8]) -> Court
+/// The state that bytes say, each number brought into its range; so bytes of a state that a game
+/// comes to are that state.
+pub fn load_state(part: &[u8]) -> CourtGame
     requires { length part.now ≡ 64 }
-    ensures value { result.state ≡ clamped_in (state_in part.now) }
-    ensures saved { (s : Plain) → InCourt s → part.now ≡ state_bytes s → result.state ≡ s }
+    ensures court { result.court.state ≡ clamped_in (state_in part.now) }
+    ensures tone { sounding result.tone ≡ tone_in part.now }
+    ensures saved { (s : SoundingCourt) → InGame s → part.now ≡ state_bytes s →
+        sounding_court result ≡ s }
 {
-    Court::clamped(State {
+    let state = State {
         ball: get_ball(part),
         left: get_paddle(part, LEFT_AT),
         right: get_paddle(part, RIGHT_AT),
@@ -87,5 +98,9 @@ pub fn load_state(part: &[u8]) -> Court
             right: part[SCORE_AT + 1],
         },
         wait: part[SCORE_AT + 2],
-    })
+    };
+    CourtGame {
+        court: Court::clamped(state),
+        tone: Tone::from_bytes([part[TONE_AT], part[TONE_AT + 1]]),
+    }
 }

@@ -1,6 +1,6 @@
 // Single frames at the edges of the rules.
 use court::state::{Ball, Paddle, Score};
-use court::{Court, Input, State};
+use court::{Court, Cue, Input, State};
 use std::process::Abort;
 
 // A ball by its position and its velocity.
@@ -25,7 +25,7 @@ fn check_between(
     };
     let court = Court::clamped(state);
     assert_eq!(rt; court.state, state, "in the court");
-    assert_eq!(rt; court.frame(Input(0), Input(0)).state.ball, ball(to));
+    assert_eq!(rt; court.frame(Input(0), Input(0)).court.state.ball, ball(to));
 }
 
 // The same with the paddles at the start.
@@ -54,8 +54,9 @@ fn reach_of_paddles(rt: HostRuntime) {
     check_ball(&rt, (37377, 15360, 512, 0), (37888, 15360, -544, 0));
 }
 
-// Where both paddles meet the ball, it turns round in x and lies where it was before the step, also beside a wall; where the left one alone does,
-// the right one does not look at the ball that was struck.
+// Where both paddles meet the ball, it turns round in x and lies where it was before the step, also
+// beside a wall; where the left one alone does, the right one does not look at the ball that was
+// struck.
 #[test]
 fn both_paddles(rt: HostRuntime) {
     let left = Paddle { x: 19968, y: 11264 };
@@ -87,7 +88,8 @@ fn both_paddles(rt: HostRuntime) {
     );
 }
 
-// It changes the ball's velocity in y by a sixteenth of the distance, rounded toward 0, and makes it faster, up to a limit.
+// It changes the ball's velocity in y by a sixteenth of the distance, rounded toward 0, and makes
+// it faster, up to a limit.
 #[test]
 fn bend_and_speed(rt: HostRuntime) {
     check_ball(&rt, (3583, 15345, -512, 0), (3072, 15345, 544, 0));
@@ -100,8 +102,9 @@ fn bend_and_speed(rt: HostRuntime) {
     check_ball(&rt, (3583, 14860, -6144, -6130), (8448, 8730, 6144, -6144));
 }
 
-// A frame has as few steps as keep each at most 768. Where the velocity does not divide, the first ones are one longer, so that a
-// paddle or a wall in the middle of a frame finds the ball at just one place.
+// A frame has as few steps as keep each at most 768. Where the velocity does not divide, the first
+// ones are one longer, so that a paddle or a wall in the middle of a frame finds the ball at just
+// one place.
 #[test]
 fn steps(rt: HostRuntime) {
     check_ball(&rt, (20480, 15360, 768, -768), (21248, 14592, 768, -768));
@@ -112,7 +115,8 @@ fn steps(rt: HostRuntime) {
     check_ball(&rt, (37888, 15360, 2, 1537), (37887, 16897, -34, 1569));
 }
 
-// What turns the ball in the middle of a frame turns the rest of the frame round; where a velocity has become 0, the rest stands still.
+// What turns the ball in the middle of a frame turns the rest of the frame round; where a velocity
+// has become 0, the rest stands still.
 #[test]
 fn turns_in_the_middle(rt: HostRuntime) {
     check_ball(&rt, (20480, 2000, -3000, -3000), (17480, 2012, -3000, 3000));
@@ -150,7 +154,7 @@ fn ends_and_goals(rt: HostRuntime) {
 
 // Where the left paddle is after a frame with an input, from the start.
 fn paddle_after(input: u8) -> (i32, i32) {
-    let p = Court::new().frame(Input(input), Input(0)).state.left;
+    let p = Court::new().frame(Input(input), Input(0)).court.state.left;
     (p.x, p.y)
 }
 
@@ -168,4 +172,35 @@ fn keys(rt: HostRuntime) {
         "both keys of a pair are as good as none"
     );
     assert_eq!(rt; paddle_after(12), (2048, 15360));
+}
+
+// What is heard of a frame in which nobody moves, with so many points for seat 0 and the left
+// paddle at that height.
+fn check_cue(rt: &impl Abort, points: u8, y: i32, from: (i32, i32, i32, i32), cue: Cue) {
+    let state = State {
+        ball: ball(from),
+        left: Paddle { x: 2048, y },
+        right: Paddle { x: 38912, y: 15360 },
+        score: Score {
+            left: points,
+            right: 0,
+        },
+        wait: 0,
+    };
+    assert_eq!(rt; Court::clamped(state).frame(Input(0), Input(0)).cue, cue);
+}
+
+// The last thing in a frame counts: first come the walls, then the paddles, then the ends.
+#[test]
+fn cues(rt: HostRuntime) {
+    check_cue(&rt, 0, 15360, (20000, 15360, 512, 256), Cue::Nothing);
+    check_cue(&rt, 0, 15360, (20000, 712, -300, -200), Cue::Nothing);
+    check_cue(&rt, 0, 15360, (20000, 711, -300, -200), Cue::Wall);
+    check_cue(&rt, 0, 15360, (3583, 15360, -512, 0), Cue::Paddle);
+    check_cue(&rt, 0, 2048, (3583, 711, -512, -200), Cue::Paddle);
+    check_cue(&rt, 0, 28672, (3583, 711, -512, -200), Cue::Wall);
+    check_cue(&rt, 0, 28672, (700, 15360, -512, 0), Cue::Point);
+    check_cue(&rt, 0, 28672, (700, 5000, -512, 0), Cue::Wall);
+    check_cue(&rt, 9, 28672, (700, 15360, -512, 0), Cue::Nothing);
+    assert_eq!(rt; Court::new().frame(Input(0), Input(0)).cue, Cue::Nothing);
 }

@@ -1,8 +1,8 @@
 // Whole games: inputs of both seats, and the state that they come to, worked out from the rules.
 use court::state::{Ball, Paddle, Score};
 use court::{Court, State};
-use court_game::entry::Held;
 use court_game::plain::{play, play_frames, play_on};
+use court_game::sounding::CourtGame;
 use game::rules::Game;
 use std::test::Fail;
 
@@ -125,8 +125,8 @@ fn plays_a_million(rt: HostRuntime) -> Result<(), Fail> {
 
 #[test]
 fn takes_four_bits(rt: HostRuntime) {
-    assert!(rt; Held::fits(0));
-    assert!(rt; Held::fits(15));
-    assert!(rt; !Held::fits(16));
-    assert!(rt; !Held::fits(255));
+    assert!(rt; CourtGame::fits(0));
+    assert!(rt; CourtGame::fits(15));
+    assert!(rt; !CourtGame::fits(16));
+    assert!(rt; !CourtGame::fits(255));
 }

@@ -2,10 +2,8 @@
 use Rattle.std.proofs.Common.{◌≡◌, ℕ, zero, suc, ◌+◌, ◌*◌, min, List, [], ◌∷◌, ◌++◌, map, length, set, take, drop, sym, refl, ap, ◌∙◌, add-one, arith, length-append}
 use Rattle.std.proofs.Math.Seq.{take-add}
 use Rattle.std.proofs.lemmas.List.{append_assoc, append-nil, nil_from_length, take_all, take_more_set, length-map, map-append, take-take}
-use Rattle.court.specs.declared.state.State.{State}
-use Rattle.court.specs.Frame.{start}
-use Rattle.court_game.specs.Games.{court_game}
 use Rattle.court_game.specs.Snapshots.{state_bytes}
+use Rattle.court_game.specs.Sounding.{SoundingCourt, sounding_game, sounding_start}
 use Rattle.game.specs.Plain.{plays, seat_0, seat_1}
 use Rattle.game.proofs.Plays.{plays_append}
 use Rattle.game.specs.declared.seat.Seat.{Seat}
@@ -14,7 +12,7 @@ use Rattle.game.specs.Seats.{in_order}
 use Rattle.peer.specs.declared.numbers.Peer.{Peer}
 use Rattle.peer.specs.Lent.{Long, log_of}
 use Rattle.peer.proofs.Logs.{own_long, other_long}
-use Rattle.recording.specs.Matches.{frame_byte, frame_bytes, match_of, after_frames, marks}
+use Rattle.recording.specs.Matches.{frame_byte, frame_bytes, match_of, sounding_after, marks}
 
 -- ---- frames
 
@@ -54,27 +52,27 @@ take_frames (x ∷ xs) (y ∷ ys) (suc k) = ap (λ zs. frame_byte x y ∷ zs) (t
 -- ---- states
 
 -- some frames more
-after_more : (fs gs : List ℕ) → after_frames (fs ++ gs) ≡ plays court_game (after_frames fs) (map seat_0 gs) (map seat_1 gs)
+after_more : (fs gs : List ℕ) → sounding_after (fs ++ gs) ≡ plays sounding_game (sounding_after fs) (map seat_0 gs) (map seat_1 gs)
 after_more fs gs =
-    ap (λ zs. plays court_game start zs (map seat_1 (fs ++ gs))) (map-append seat_0 fs gs)
-    ∙ ap (plays court_game start (map seat_0 fs ++ map seat_0 gs)) (map-append seat_1 fs gs)
-    ∙ sym (plays_append court_game start (map seat_0 fs) (map seat_1 fs) (map seat_0 gs) (map seat_1 gs) (length-map fs seat_0 ∙ sym (length-map fs seat_1)))
+    ap (λ zs. plays sounding_game sounding_start zs (map seat_1 (fs ++ gs))) (map-append seat_0 fs gs)
+    ∙ ap (plays sounding_game sounding_start (map seat_0 fs ++ map seat_0 gs)) (map-append seat_1 fs gs)
+    ∙ sym (plays_append sounding_game sounding_start (map seat_0 fs) (map seat_1 fs) (map seat_0 gs) (map seat_1 gs) (length-map fs seat_0 ∙ sym (length-map fs seat_1)))
 
 -- up to a place, and on from there
-pub after_on : (fs : List ℕ) (k n m : ℕ) → k + n ≡ m → after_frames (take m fs) ≡ plays court_game (after_frames (take k fs)) (map seat_0 (take n (drop k fs))) (map seat_1 (take n (drop k fs)))
+pub after_on : (fs : List ℕ) (k n m : ℕ) → k + n ≡ m → sounding_after (take m fs) ≡ plays sounding_game (sounding_after (take k fs)) (map seat_0 (take n (drop k fs))) (map seat_1 (take n (drop k fs)))
 after_on fs k n m e =
-    ap (λ i. after_frames (take i fs)) (sym e) ∙ ap after_frames (take-add k n fs) ∙ after_more (take k fs) (take n (drop k fs))
+    ap (λ i. sounding_after (take i fs)) (sym e) ∙ ap sounding_after (take-add k n fs) ∙ after_more (take k fs) (take n (drop k fs))
 
 -- on to the next saved state, with the 600 frames from the last one on
-pub after_part : (fs next : List ℕ) (j k : ℕ) (s t : State) → k ≡ 600 → next ≡ take k (drop (600 * j) fs) → s ≡ after_frames (take (600 * j) fs) → t ≡ plays court_game s (map seat_0 next) (map seat_1 next) → t ≡ after_frames (take (600 * (j + 1)) fs)
+pub after_part : (fs next : List ℕ) (j k : ℕ) (s t : SoundingCourt) → k ≡ 600 → next ≡ take k (drop (600 * j) fs) → s ≡ sounding_after (take (600 * j) fs) → t ≡ plays sounding_game s (map seat_0 next) (map seat_1 next) → t ≡ sounding_after (take (600 * (j + 1)) fs)
 after_part fs next j k s t six part-is before is =
     is
-    ∙ ap (λ u. plays court_game u (map seat_0 next) (map seat_1 next)) before
-    ∙ ap (λ zs. plays court_game (after_frames (take (600 * j) fs)) (map seat_0 zs) (map seat_1 zs)) part-is
+    ∙ ap (λ u. plays sounding_game u (map seat_0 next) (map seat_1 next)) before
+    ∙ ap (λ zs. plays sounding_game (sounding_after (take (600 * j) fs)) (map seat_0 zs) (map seat_1 zs)) part-is
     ∙ sym (after_on fs (600 * j) k (600 * (j + 1)) (omega arith))
 
 -- one saved state more
-pub marks_more : (fs : List ℕ) (j : ℕ) → marks fs (j + 1) ≡ marks fs j ++ state_bytes (after_frames (take (600 * (j + 1)) fs))
+pub marks_more : (fs : List ℕ) (j : ℕ) → marks fs (j + 1) ≡ marks fs j ++ state_bytes (sounding_after (take (600 * (j + 1)) fs))
 unfolding marks
 marks_more fs j = rw add-one refl
 
@@ -83,7 +81,7 @@ unfolding marks
 length_marks fs zero = refl
 length_marks fs (suc m) =
     let e = length_marks fs m in
-    let s = state_bytes (after_frames (take (600 * suc m) fs)) in
+    let s = state_bytes (sounding_after (take (600 * suc m) fs)) in
     let l : length s ≡ 64 = refl in
     omega (arith, length-append (marks fs m) s)
 

@@ -4,18 +4,17 @@ use borrow.Rule.Slice.PartMut.{put_mid}
 use Rattle.std.proofs.lemmas.List.{append-nil, append_assoc, take_at, take_min, drop_at, drop_min, drop-drop}
 use Rattle.std.proofs.lemmas.Bool.{cases_lt}
 use Rattle.byte_numbers.specs.Little.{part}
-use Rattle.court.specs.declared.state.State.{State}
-use Rattle.court_game.specs.Games.{court_game}
 use Rattle.court_game.specs.Snapshots.{state_bytes}
+use Rattle.court_game.specs.Sounding.{SoundingCourt, sounding_game}
 use Rattle.game.specs.Plain.{plays, seat_0, seat_1}
-use Rattle.recording.specs.Matches.{after_frames, marks}
+use Rattle.recording.specs.Matches.{sounding_after, marks}
 use Rattle.recording.specs.Reading.{differing}
 use Rattle.recording.proofs.Differences.{Alike, part_byte, same_below, differing_some, differing_none, differs_at, differs_nowhere}
 use Rattle.recording.proofs.Frames.{after_part, marks_more, length_marks}
 
 -- the state after the frames of one part more
 abbrev pub mark_bytes_at : List ℕ → ℕ → List ℕ
-mark_bytes_at fs j = state_bytes (after_frames (take (600 * (j + 1)) fs))
+mark_bytes_at fs j = state_bytes (sounding_after (take (600 * (j + 1)) fs))
 
 -- some states, and the others behind them
 marks_rest : (fs : List ℕ) (j i : ℕ) → (rest : List ℕ) × (marks fs (j + i) ≡ marks fs j ++ rest)
@@ -42,7 +41,7 @@ mark_part fs j m h =
     ∙ take_at here r.0 64 refl
 
 -- a saved state by its number, as the code reads it
-pub saved_at : (states fs : List ℕ) (n m k : ℕ) → states ≡ marks fs m → 0 < n → n ≤ m → k ≡ 64 → take k (drop (64 * n - 64) states) ≡ state_bytes (after_frames (take (600 * n) fs))
+pub saved_at : (states fs : List ℕ) (n m k : ℕ) → states ≡ marks fs m → 0 < n → n ≤ m → k ≡ 64 → take k (drop (64 * n - 64) states) ≡ state_bytes (sounding_after (take (600 * n) fs))
 saved_at states fs n m k e some h f =
     let j : ℕ = n - 1 in
     let at : 64 * n - 64 ≡ 64 * j = omega arith in
@@ -51,7 +50,7 @@ saved_at states fs n m k e some h f =
     ∙ ap (λ i. take 64 (drop i states)) at
     ∙ ap (λ zs. part zs (64 * j) 64) e
     ∙ mark_part fs j m (omega arith)
-    ∙ ap (λ i. state_bytes (after_frames (take (600 * i) fs))) next
+    ∙ ap (λ i. state_bytes (sounding_after (take (600 * i) fs))) next
 
 -- ---- rows that are compared part by part
 
@@ -93,9 +92,9 @@ differs_on xs ys n k a same e =
 -- ---- the loops over the frames, 600 at a time
 
 -- the state after so many times 600 frames, and the frames that are left
-pub record Played (fs : List ℕ) (state : State) (j : ℕ) (left : List ℕ) : Type 0 where
+pub record Played (fs : List ℕ) (state : SoundingCourt) (j : ℕ) (left : List ℕ) : Type 0 where
   pub left_is : left ≡ drop (600 * j) fs
-  pub state_is : state ≡ after_frames (take (600 * j) fs)
+  pub state_is : state ≡ sounding_after (take (600 * j) fs)
   pub within : 600 * j ≤ length fs
 
 -- the front of what is left, and what is left then
@@ -104,7 +103,7 @@ cut xs front rest n k e l =
     let ys : List ℕ = drop n xs in
     (sym (take_at front rest _ l) ∙ ap (take (min k (length ys))) e ∙ take_min k ys, sym (drop_at front rest _ l) ∙ ap (drop (min k (length ys))) e ∙ drop_min k ys ∙ drop-drop k n xs)
 
-pub played_more : (fs : List ℕ) (s t : State) (j : ℕ) (left next rest : List ℕ) → Played fs s j left → left ≡ next ++ rest → length next ≡ 600 → t ≡ plays court_game s (map seat_0 next) (map seat_1 next) → Played fs t (j + 1) rest
+pub played_more : (fs : List ℕ) (s t : SoundingCourt) (j : ℕ) (left next rest : List ℕ) → Played fs s j left → left ≡ next ++ rest → length next ≡ 600 → t ≡ plays sounding_game s (map seat_0 next) (map seat_1 next) → Played fs t (j + 1) rest
 played_more fs s t j left next rest p e m is =
     let a = ap length e ∙ length-append next rest in
     let b = ap length p.left_is in
@@ -120,20 +119,20 @@ played_more fs s t j left next rest p e m is =
 -- ---- the loop over the saved states
 
 -- so many were compared and are right; what is left of them
-pub record Compared (fs states : List ℕ) (state : State) (j : ℕ) (fs_left states_left : List ℕ) : Type 0 where
+pub record Compared (fs states : List ℕ) (state : SoundingCourt) (j : ℕ) (fs_left states_left : List ℕ) : Type 0 where
   pub played : Played fs state j fs_left
   pub left_is : states_left ≡ drop (64 * j) states
   pub right : Alike states (marks fs (length fs / 600)) (64 * j)
 
 -- one more: its bytes, and those that are due
-pub record Turned (fs states : List ℕ) (state : State) (j : ℕ) (saved fs_next states_next : List ℕ) : Type 0 where
+pub record Turned (fs states : List ℕ) (state : SoundingCourt) (j : ℕ) (saved fs_next states_next : List ℕ) : Type 0 where
   pub played : Played fs state (j + 1) fs_next
   pub saved_is : saved ≡ part states (64 * j) 64
   pub due_is : state_bytes state ≡ part (marks fs (length fs / 600)) (64 * j) 64
   pub left_is : states_next ≡ drop (64 * (j + 1)) states
 
 -- by what the iterators gave: 600 frames, and up to 64 bytes
-pub turned : (fs states : List ℕ) (s t : State) (j : ℕ) (fs_left states_left next saved fs_next states_next : List ℕ) (m n : ℕ) → Compared fs states s j fs_left states_left → (fs_left ≡ next ++ fs_next) × (length next ≡ m) → m ≡ 600 → (states_left ≡ saved ++ states_next) × (length saved ≡ min n (length states_left)) × (0 < length states_left) → n ≡ 64 → t ≡ plays court_game s (map seat_0 next) (map seat_1 next) → Turned fs states t j saved fs_next states_next
+pub turned : (fs states : List ℕ) (s t : SoundingCourt) (j : ℕ) (fs_left states_left next saved fs_next states_next : List ℕ) (m n : ℕ) → Compared fs states s j fs_left states_left → (fs_left ≡ next ++ fs_next) × (length next ≡ m) → m ≡ 600 → (states_left ≡ saved ++ states_next) × (length saved ≡ min n (length states_left)) × (0 < length states_left) → n ≡ 64 → t ≡ plays sounding_game s (map seat_0 next) (map seat_1 next) → Turned fs states t j saved fs_next states_next
 turned fs states s t j fs_left states_left next saved fs_next states_next m n c e f g h is =
     let more = played_more fs s t j fs_left next fs_next c.played e.0 (e.1 ∙ f) is in
     let early = more.within in
@@ -148,21 +147,21 @@ turned fs states s t j fs_left states_left next saved fs_next states_next m n c 
     }
 
 -- the parts that the code compares are those
-same_parts : (fs states : List ℕ) (t : State) (j : ℕ) (saved bytes fs_next states_next : List ℕ) → Turned fs states t j saved fs_next states_next → bytes ≡ state_bytes t → differing (part states (64 * j) 64) (part (marks fs (length fs / 600)) (64 * j) 64) ≡ differing saved bytes
+same_parts : (fs states : List ℕ) (t : SoundingCourt) (j : ℕ) (saved bytes fs_next states_next : List ℕ) → Turned fs states t j saved fs_next states_next → bytes ≡ state_bytes t → differing (part states (64 * j) 64) (part (marks fs (length fs / 600)) (64 * j) 64) ≡ differing saved bytes
 same_parts fs states t j saved bytes fs_next states_next c b =
     ap (λ zs. differing zs (part (marks fs (length fs / 600)) (64 * j) 64)) (sym c.saved_is) ∙ ap (differing saved) (sym (b ∙ c.due_is))
 
-pub compared_more : (fs states : List ℕ) (t : State) (j : ℕ) (saved bytes fs_next states_next : List ℕ) → Alike states (marks fs (length fs / 600)) (64 * j) → Turned fs states t j saved fs_next states_next → bytes ≡ state_bytes t → None ≡ differing saved bytes → Compared fs states t (j + 1) fs_next states_next
+pub compared_more : (fs states : List ℕ) (t : SoundingCourt) (j : ℕ) (saved bytes fs_next states_next : List ℕ) → Alike states (marks fs (length fs / 600)) (64 * j) → Turned fs states t j saved fs_next states_next → bytes ≡ state_bytes t → None ≡ differing saved bytes → Compared fs states t (j + 1) fs_next states_next
 compared_more fs states t j saved bytes fs_next states_next same c b e =
     let more = alike_on states _ (64 * j) 64 same (same_parts fs states t j saved bytes fs_next states_next c b ∙ sym e) in
     record { played = c.played; left_is = c.left_is; right = λ i l. more i (omega arith) }
 
-pub found : (fs states : List ℕ) (t : State) (j k : ℕ) (saved bytes fs_next states_next : List ℕ) → Alike states (marks fs (length fs / 600)) (64 * j) → Turned fs states t j saved fs_next states_next → bytes ≡ state_bytes t → Some k ≡ differing saved bytes → (differing states (marks fs (length fs / 600)) ≡ Some (64 * j + k)) × (64 * j + k < length states)
+pub found : (fs states : List ℕ) (t : SoundingCourt) (j k : ℕ) (saved bytes fs_next states_next : List ℕ) → Alike states (marks fs (length fs / 600)) (64 * j) → Turned fs states t j saved fs_next states_next → bytes ≡ state_bytes t → Some k ≡ differing saved bytes → (differing states (marks fs (length fs / 600)) ≡ Some (64 * j + k)) × (64 * j + k < length states)
 found fs states t j k saved bytes fs_next states_next same c b e =
     differs_on states _ (64 * j) 64 k same (same_parts fs states t j saved bytes fs_next states_next c b ∙ sym e)
 
 -- where there are no more frames for a state, or no more bytes
-pub all_compared : (fs states : List ℕ) (s : State) (j : ℕ) (fs_left states_left : List ℕ) → Compared fs states s j fs_left states_left → (length fs_left < 600) ⊎ (length states_left ≡ 0) → differing states (marks fs (length fs / 600)) ≡ None
+pub all_compared : (fs states : List ℕ) (s : SoundingCourt) (j : ℕ) (fs_left states_left : List ℕ) → Compared fs states s j fs_left states_left → (length fs_left < 600) ⊎ (length states_left ≡ 0) → differing states (marks fs (length fs / 600)) ≡ None
 all_compared fs states s j fs_left states_left c end =
     let p = c.played in
     let a = ap length p.left_is ∙ length-drop (600 * j) fs in

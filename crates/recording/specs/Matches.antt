@@ -5,6 +5,7 @@ use Rattle.court.specs.declared.state.State.{State}
 use Rattle.court.specs.Frame.{start}
 use Rattle.court_game.specs.Games.{court_game}
 use Rattle.court_game.specs.Snapshots.{state_bytes}
+use Rattle.court_game.specs.Sounding.{SoundingCourt, sounding_game, sounding_start}
 use Rattle.game.specs.Plain.{plays, seat_0, seat_1}
 use Rattle.game.specs.declared.seat.Seat.{Seat}
 use Rattle.game.specs.Seats.{in_order}
@@ -36,12 +37,16 @@ match_of seat window log =
 abbrev pub after_frames : List ℕ → State
 after_frames fs = plays court_game start (map seat_0 fs) (map seat_1 fs)
 
+-- the same with the tone
+abbrev pub sounding_after : List ℕ → SoundingCourt
+sounding_after fs = plays sounding_game sounding_start (map seat_0 fs) (map seat_1 fs)
+
 -- ---- its bytes
 
--- the states after frames 600, 1,200 and so on, m of them
+-- the states after frames 600, 1,200 and so on, with their tones, m of them
 unfoldable pub marks : List ℕ → ℕ → List ℕ
 marks fs zero = []
-marks fs (suc m) = marks fs m ++ state_bytes (after_frames (take (600 * suc m) fs))
+marks fs (suc m) = marks fs m ++ state_bytes (sounding_after (take (600 * suc m) fs))
 
 -- "REC"; the window; how many frames; the frames; the state after every 600th
 abbrev pub match_bytes : Match → List ℕ

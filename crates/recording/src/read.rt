@@ -1,5 +1,6 @@
 // Bytes as a recording, or their first fault.
 ghost use Rattle.std.specs.Prelude.{◌≡◌, ◌+◌, ◌/◌, ◌≤◌, length, IfOk};
+ghost use Rattle.court_game.specs.Held.{sounding_court};
 ghost use Rattle.court_game.specs.Snapshots.{state_bytes};
 ghost use Rattle.recording.specs.Matches.{marks, match_bytes};
 ghost use Rattle.recording.specs.Reading.{differing, states_told, reading, read_as, match_in, PartsOf, Proper, Right};
@@ -8,10 +9,10 @@ use crate::fault::Fault;
 use crate::held::Recording;
 use crate::layout::{COUNT_AT, EVERY, FRAMES_AT, MARK, WINDOW_AT};
 use byte_numbers::LittleEndian;
-use court::Court;
-use court_game::entry::Held;
 use court_game::snapshot::save_state;
+use court_game::sounding::CourtGame;
 use game::plain::MOST_FRAMES;
+use game::rules::Game;
 use game::saved::STATE_BYTES;
 use peer::numbers::check_window;
 use std::cmp::Ordering;
@@ -24,11 +25,11 @@ fn first_difference(xs: &[u8], ys: &[u8]) -> Option<usize>
 }
 
 // A state's bytes.
-fn bytes_of(court: Court) -> [u8; STATE_BYTES]
-    ensures { result ≡ state_bytes court.state }
+fn bytes_of(state: CourtGame) -> [u8; STATE_BYTES]
+    ensures { result ≡ state_bytes (sounding_court state) }
 {
     let mut bytes = [0; STATE_BYTES];
-    save_state(court, &mut bytes);
+    save_state(state, &mut bytes);
     bytes
 }
 
@@ -64,11 +65,11 @@ impl<'a> Recording<'a> {
     fn wrong_state(&self) -> Option<usize>
         ensures { result ≡ differing self.now.states.now (marks self.now.frames.now (length self.now.frames.now / 600)) }
     {
-        let mut state = Court::new();
+        let mut state = CourtGame::start();
         let parts = self.frames.chunks_exact(EVERY);
         // By the state's number, since `chunks` tells no place.
         for (j, (part, saved)) in parts.zip(self.states.chunks(STATE_BYTES)).enumerate() {
-            state = game::plain::play_frames(Held(state), part).0;
+            state = game::plain::play_frames(state, part);
             if let Some(at) = first_difference(saved, &bytes_of(state)) {
                 return Some(STATE_BYTES * j + at);
             }

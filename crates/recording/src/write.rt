@@ -9,9 +9,9 @@ ghost use Rattle.recording.specs.Writing.{writing, written_over};
 
 use crate::layout::{COUNT_AT, EVERY, FRAMES_AT, MARK, WINDOW_AT, length_by};
 use byte_numbers::LittleEndian;
-use court::Court;
-use court_game::entry::Held;
 use court_game::snapshot::save_state;
+use court_game::sounding::CourtGame;
+use game::rules::Game;
 use game::saved::STATE_BYTES;
 use peer::Peer;
 use peer::log::HALF;
@@ -43,10 +43,10 @@ fn put_states(frames: &[u8], states: &mut [u8])
     requires { 64 * (length frames.now / 600) ≤ length states.old }
     ensures { states.new ≡ marks frames.now (length frames.now / 600) ++ drop (64 * (length frames.now / 600)) states.old }
 {
-    let mut state = Court::new();
+    let mut state = CourtGame::start();
     // By places: of a slice that `chunks_exact_mut` lent a proof knows afterwards only the length.
     for (j, part) in frames.chunks_exact(EVERY).enumerate() {
-        state = game::plain::play_frames(Held(state), part).0;
+        state = game::plain::play_frames(state, part);
         let at = STATE_BYTES * j;
         save_state(state, &mut states[at..at + STATE_BYTES]);
     }

@@ -1,4 +1,5 @@
-// Recordings of what a peer is sure of. The state was worked out by another implementation of the rules.
+// Recordings of what a peer is sure of. The state was worked out by another implementation of the
+// rules.
 ghost use Rattle.std.specs.Prelude.{◌<◌};
 
 use game::plain::MOST_FRAMES;
@@ -27,7 +28,8 @@ pub(crate) fn fill(rt: &impl Abort, inputs: &mut [u8]) {
     assert!(rt; inputs.len() >= INPUTS);
     // By places: over chunks of both halves the check left the bounds of the second open.
     for k in 0..FILLED {
-        // The check proves that the casts lose nothing: `try_from` would bring errors that cannot come.
+        // The check proves that the casts lose nothing: `try_from` would bring errors that cannot
+        // come.
         inputs[k] = (k % 16) as u8;
         inputs[HALF + k] = (k / 7 % 16) as u8;
     }
@@ -106,5 +108,18 @@ fn refused(rt: HostRuntime) -> Result<(), Fail> {
         Err(Unwritten::NoRoom)
     );
     assert_eq!(rt; out, [9u8; 671]);
+    Ok(())
+}
+
+// The tone that sounds in frame 600 is in the state after it: the left paddle went up, the right
+// one down, and one of them met the ball five frames before. It was worked out by another
+// implementation of the rules.
+#[test]
+fn tone_is_saved(rt: HostRuntime) -> Result<(), Fail> {
+    let mut inputs = vec![in rt.alloc(); 4u8; INPUTS]?;
+    inputs[HALF..].fill(8);
+    let mut out = [9u8; 672];
+    assert_eq!(rt; write(&level(600), &inputs, &mut out), Ok(672));
+    assert_eq!(rt; &out[640..646], [1, 1, 0, 1, 5, 0].as_slice());
     Ok(())
 }

@@ -3,7 +3,7 @@ use crate::machine::Machine;
 use crate::naive::{Naive, Told, taken_for};
 use crate::random::{bytes_for, next, pick};
 use crate::trail::Trail;
-use court_game::entry::Held;
+use court_game::sounding::CourtGame;
 use game::saved::{STATE_BYTES, SavedGame};
 use game::seat::Seat;
 use peer::memory::MOST_STATES;
@@ -94,14 +94,14 @@ fn beside<G: SavedGame>(
 
 #[test]
 fn court_left(rt: HostRuntime) -> Result<(), Fail> {
-    beside::<Held>(&rt, rt.alloc(), Seat::Left, 3, 1)?;
-    beside::<Held>(&rt, rt.alloc(), Seat::Left, 60, 2)
+    beside::<CourtGame>(&rt, rt.alloc(), Seat::Left, 3, 1)?;
+    beside::<CourtGame>(&rt, rt.alloc(), Seat::Left, 60, 2)
 }
 
 #[test]
 fn court_right(rt: HostRuntime) -> Result<(), Fail> {
-    beside::<Held>(&rt, rt.alloc(), Seat::Right, 1, 3)?;
-    beside::<Held>(&rt, rt.alloc(), Seat::Right, 9, 4)
+    beside::<CourtGame>(&rt, rt.alloc(), Seat::Right, 1, 3)?;
+    beside::<CourtGame>(&rt, rt.alloc(), Seat::Right, 9, 4)
 }
 
 #[test]

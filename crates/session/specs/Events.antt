@@ -31,3 +31,10 @@ sent b m = cond b (Some (message_length m)) None
 
 abbrev pub packet_over : Bool → Message → List ℕ → List ℕ
 packet_over b m out = cond b (message_bytes m ++ drop (message_length m) out) out
+
+-- the sound of a frame is handed out where a tick plays it
+abbrev pub hands : Event → Outcome → Bool
+hands (tick a) (Taken n) = true
+hands (tick a) Lost = false
+hands (tick a) (Refused r) = false
+hands (arrival xs) o = false

@@ -6,17 +6,19 @@ use Rattle.peer.specs.declared.numbers.Peer as numbers
 use Rattle.peer.specs.declared.refusal.Refusal.{Refusal}
 use Rattle.peer.specs.declared.refusal.Refusal.TheVariants.{States}
 use Rattle.session.specs.declared.refused.Refused.{Refused}
-use Rattle.session.specs.declared.refused.Refused.TheVariants.{Peer, Picture, Event}
+use Rattle.session.specs.declared.refused.Refused.TheVariants.{Peer, Picture, Sound, Event}
 
 abbrev pub refused_number : Refused → ℕ
 refused_number (Peer r) = refusal_number r
 refused_number Picture = 5
+refused_number Sound = 5
 refused_number (Event at) = 4
 
--- lent memory is counted from the window as 0: inputs, states, picture
+-- lent memory is counted from the window as 0: inputs, states, picture; 6 is that for a sound
 abbrev pub refused_place : Refused → ℕ
 refused_place (Peer r) = refusal_place r
 refused_place Picture = 3
+refused_place Sound = 6
 refused_place (Event at) = at
 
 -- as people are told: "refused 4 at 6"
@@ -36,3 +38,10 @@ as_begun (Err f) = Err f
 abbrev pub said_drawn : ℕ → ℕ → ℕ → Result (Unit {0}) Refused
 said_drawn window states picture =
     cond (nat_lt states ((window + 1) * 64)) (Err (Peer States)) (cond (nat_lt picture 19200) (Err Picture) (Ok tt))
+
+-- what is said of handing out a sound, by the window and the lengths of the lent states and of the
+-- lent memory for it
+abbrev pub said_handed : ℕ → ℕ → ℕ → Result (Unit {0}) Refused
+said_handed window states sound =
+    cond (nat_lt states ((window + 1) * 64)) (Err (Peer States))
+    (cond (nat_lt sound 1600) (Err Sound) (Ok tt))

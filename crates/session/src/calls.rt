@@ -4,6 +4,7 @@ ghost use Rattle.court.specs.Bounds.{InCourt};
 ghost use Rattle.court.specs.declared.state.State.{State};
 ghost use Rattle.court_game.specs.Games.{court_game, is_input};
 ghost use Rattle.court_game.specs.Saved.{court_saved};
+ghost use Rattle.court_game.specs.Sounding.{sounding_game};
 ghost use Rattle.game.specs.declared.seat.Seat.{Seat as At};
 ghost use Rattle.packet.specs.Wire.{message_length};
 ghost use Rattle.peer.specs.Lent.{Long, LongStates, log_of};
@@ -17,13 +18,15 @@ ghost use Rattle.rollback.specs.Rows.{StandsFor};
 ghost use Rattle.rollback.specs.Saved.{Behind, Happened};
 ghost use Rattle.session.specs.Events.{event_of, said, writes, sent, packet_over};
 ghost use Rattle.session.specs.Standing.{status_of};
-ghost use Rattle.session.specs.Refusals.{as_begun, said_begun, said_drawn};
+ghost use Rattle.session.specs.Refusals.{as_begun, said_begun, said_drawn, said_handed};
+ghost use Rattle.sound.specs.Sound.{sound_bytes};
+ghost use Rattle.sound.specs.Tones.{Sounding, IsInRange};
 ghost use Rattle.session.specs.Rows.{After, WritesOwn, log_after, memory};
 
 use crate::event::{Answer, Happening};
 use crate::refused::Refused;
 use crate::status::Status;
-use court_game::entry::Held;
+use court_game::sounding::CourtGame;
 use game::seat::Seat;
 use packet::MOST_LENGTH;
 use peer::Peer;
@@ -32,6 +35,7 @@ use picture::LENGTH;
 use rollback::Outcome;
 use rollback::events::{receive, tick};
 use rollback::shown::shown;
+use sound::write_samples;
 
 // As many bytes as a packet has at most, named here for callers, who need not know `packet`.
 pub const PACKET_LENGTH: usize = MOST_LENGTH;
@@ -66,7 +70,7 @@ pub fn begin(
     ensures idle { is_err result ≡ true → states.new ≡ states.old }
 {
     check_lent(window, inputs, states, picture)?;
-    Ok(rollback::events::begin::<Held>(seat, window, inputs, states)?)
+    Ok(rollback::events::begin::<CourtGame>(seat, window, inputs, states)?)
 }
 
 // An event by the peer's call for its kind.
@@ -80,8 +84,8 @@ fn carry_out(p: &mut Peer, inputs: &mut [u8], states: &mut [u8], event: Happenin
     ensures guessed { (xs : List ℕ) → event_of event.entry ≡ arrival xs → AsPredicted (log_of p.old inputs.old) (log_of p.new inputs.new) → ((n : ℕ) → result ≡ Taken n → n ≡ 0) × (states.new ≡ states.old) }
 {
     match event {
-        Happening::Tick(input) => tick::<Held>(p, inputs, states, input),
-        Happening::Arrival(bytes) => receive::<Held>(p, inputs, states, bytes),
+        Happening::Tick(input) => tick::<CourtGame>(p, inputs, states, input),
+        Happening::Arrival(bytes) => receive::<CourtGame>(p, inputs, states, bytes),
     }
 }
 
@@ -142,8 +146,28 @@ pub fn draw(p: &Peer, states: &[u8], picture: &mut [u8]) -> Result<(), Refused>
     ensures stands { (seat : At) (window : ℕ) (log : Log) (inputs : List ℕ) → StandsFor court_saved seat window log (memory p.now inputs states.now) → is_ok result ≡ true → picture.new ≡ picture_of (shows court_game seat log) ++ drop 19200 picture.old }
     ensures row { (seat : At) (window : ℕ) (es : List Event) (inputs : List ℕ) → After seat window es (memory p.now inputs states.now) → is_ok result ≡ true → picture.new ≡ picture_of (shows court_game seat (log_after window es)) ++ drop 19200 picture.old }
 {
-    let held: Held = shown(p, states)?;
-    Ok(picture::draw(held.0, picture)?)
+    let game: CourtGame = shown(p, states)?;
+    Ok(picture::draw(game.court, picture)?)
+}
+
+/// Writes the sound of the last frame of what the peer shows: 1,600 bytes. Nothing else changes.
+pub fn hand_out(p: &Peer, states: &[u8], sound: &mut [u8]) -> Result<(), Refused>
+    ensures answer { result ≡ said_handed p.now.window (length states.now) (length sound.old) }
+    ensures behind { drop 1600 sound.new ≡ drop 1600 sound.old }
+    ensures idle { is_err result ≡ true → sound.new ≡ sound.old }
+    ensures some { OnOk result ((t : Sounding) × IsInRange t
+        × (sound.new ≡ sound_bytes t ++ drop 1600 sound.old)) }
+    ensures stands { (seat : At) (window : ℕ) (log : Log) (inputs : List ℕ) →
+        StandsFor court_saved seat window log (memory p.now inputs states.now) →
+        is_ok result ≡ true →
+        sound.new ≡ sound_bytes (shows sounding_game seat log).tone ++ drop 1600 sound.old }
+    ensures row { (seat : At) (window : ℕ) (es : List Event) (inputs : List ℕ) →
+        After seat window es (memory p.now inputs states.now) → is_ok result ≡ true →
+        let log = log_after window es in
+        sound.new ≡ sound_bytes (shows sounding_game seat log).tone ++ drop 1600 sound.old }
+{
+    let game: CourtGame = shown(p, states)?;
+    Ok(write_samples(game.tone, sound)?)
 }
 
 // Where the peer stands.
@@ -153,10 +177,10 @@ pub fn status(p: &Peer, states: &[u8]) -> Result<Status, Refused>
     ensures stands { IfOk result (λ s. (seat : At) (window : ℕ) (log : Log) (inputs : List ℕ) → StandsFor court_saved seat window log (memory p.now inputs states.now) → s ≡ status_of seat log) }
     ensures row { IfOk result (λ s. (seat : At) (window : ℕ) (es : List Event) (inputs : List ℕ) → After seat window es (memory p.now inputs states.now) → s ≡ status_of seat (log_after window es)) }
 {
-    let held: Held = shown(p, states)?;
+    let game: CourtGame = shown(p, states)?;
     Ok(Status {
         frames: p.own,
         confirmed: p.confirmed(),
-        score: held.0.state.score,
+        score: game.court.state.score,
     })
 }

@@ -1,7 +1,7 @@
 // Why a session does not begin or does not go on.
 ghost use Rattle.std.specs.Prelude.{◌≡◌, Some};
 ghost use Rattle.session.specs.Refusals.{refused_number, refused_place, refused_text};
-ghost use Rattle.session.specs.declared.refused.Refused.TheVariants.{Peer, Picture};
+ghost use Rattle.session.specs.declared.refused.Refused.TheVariants.{Peer, Picture, Sound};
 
 use peer::Refusal;
 use std::error::Error;
@@ -13,6 +13,8 @@ pub enum Refused {
     Peer(Refusal),
     // Lent memory for the picture that is too short.
     Picture,
+    // Lent memory for a frame's sound that is too short.
+    Sound,
     // Events of which one is of no kind or cut short: its first byte.
     Event(usize),
 }
@@ -24,6 +26,7 @@ impl Refused {
         match self {
             Refused::Peer(refusal) => refusal.number(),
             Refused::Picture => 5,
+            Refused::Sound => 5,
             Refused::Event(_) => 4,
         }
     }
@@ -34,6 +37,7 @@ impl Refused {
         match self {
             Refused::Peer(refusal) => refusal.place(),
             Refused::Picture => 3,
+            Refused::Sound => 6,
             Refused::Event(at) => at,
         }
     }
@@ -53,6 +57,16 @@ impl From<picture::Refused> for Refused {
     fn from(refused: picture::Refused) -> Refused {
         match refused {
             picture::Refused::TooShort => Refused::Picture,
+        }
+    }
+}
+
+impl From<sound::Refused> for Refused {
+    ghost from_gives = { λ _ refused. refused ≡ Sound };
+
+    fn from(refused: sound::Refused) -> Refused {
+        match refused {
+            sound::Refused::TooShort => Refused::Sound,
         }
     }
 }

@@ -10,3 +10,5 @@ mod files;
 mod machine;
 #[cfg(test)]
 mod sessions;
+#[cfg(test)]
+mod sounds;

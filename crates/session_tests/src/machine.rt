@@ -4,9 +4,10 @@ use peer::Peer;
 use peer::memory::INPUTS;
 use picture::LENGTH;
 use rollback::Outcome;
-use session::calls::{PACKET_LENGTH, begin, happen, status};
+use session::calls::{PACKET_LENGTH, begin, hand_out, happen, status};
 use session::file::event_at;
 use session::sending::happen_keeping;
+use session::sounding::happen_sounding;
 use session::{Answer, Happening, Refused, Status};
 use std::alloc::{AllocError, Global};
 use std::test::Fail;
@@ -65,6 +66,27 @@ impl Machine {
             event,
             packets,
         )
+    }
+
+    // One event, with its packet and its sound behind those before.
+    pub(crate) fn hear(
+        &mut self,
+        event: Happening,
+        packets: &mut Vec<u8>,
+        sounds: &mut Vec<u8>,
+    ) -> Result<Outcome, AllocError> {
+        happen_sounding(
+            &mut self.p,
+            &mut self.inputs,
+            &mut self.states,
+            event,
+            packets,
+            sounds,
+        )
+    }
+
+    pub(crate) fn hand_out(&self, sound: &mut [u8]) -> Result<(), Refused> {
+        hand_out(&self.p, &self.states, sound)
     }
 
     pub(crate) fn status(&self) -> Result<Status, Refused> {

@@ -7,7 +7,9 @@ use Rattle.court.specs.declared.state.Side.TheVariants.{Left, Right}
 use Rattle.court.specs.Bounds.{Flying, BallIn, InHalf, Within}
 use Rattle.court.specs.Frame.{step_count, step_moved, both_at_once, after_steps}
 use Rattle.court.proofs.Steps.{steps_enough, steps_few, one_step}
+use Rattle.court.specs.Cues.{cue_after_steps}
 use Rattle.court.proofs.Stays.{steps_in}
+use Rattle.court.proofs.Heard.{one_heard, heard_more}
 use Rattle.court.proofs.ball.fly.Goals as goal
 
 -- a frame of one step has a velocity that is a step
@@ -42,22 +44,28 @@ step-requires-clause-y c =
     let fy : SFits w32 c.args.first.dy = search rules in
     simp to_z-of_z (slow c.args.first _ c.count_steps-count.ensures c.if-count-eq1.true).1
 
-pub returns-then-count-eq1 : goal.returns-then-count-eq1
-returns-then-count-eq1 c =
+pub returns-then-count-eq1-clause-ball : goal.returns-then-count-eq1-clause-ball
+returns-then-count-eq1-clause-ball c =
     let fx : SFits w32 c.args.first.dx = search rules in
     let fy : SFits w32 c.args.first.dy = search rules in
     (simp to_z-of_z at c.step.ensures.ball) ∙ one_step c.args.left c.args.right c.args.first _ (sym c.count_steps-count.ensures) c.if-count-eq1.true
 
+pub returns-then-count-eq1-clause-cue : goal.returns-then-count-eq1-clause-cue
+returns-then-count-eq1-clause-cue c =
+    let fx : SFits w32 c.args.first.dx = search rules in
+    let fy : SFits w32 c.args.first.dy = search rules in
+    (simp to_z-of_z at c.step.ensures.cue) ∙ one_heard c.args.left c.args.right c.args.first _ (sym c.count_steps-count.ensures) c.if-count-eq1.true
+
 pub loop-i-init : goal.loop-i-init
-unfolding after_steps
-loop-i-init c = record { ball = refl; steps = refl }
+unfolding after_steps cue_after_steps
+loop-i-init c = record { ball = refl; cue = refl; steps = refl }
 
 pub invariant_of-flying-in-loop-i : goal.invariant_of-flying-in-loop-i
 invariant_of-flying-in-loop-i c =
     let n : c.count_steps-count.result ≡ step_count c.args.first = c.count_steps-count.ensures in
     let m : step_count c.args.first ≤ 8 = few c.args.first c.requires.ball in
     record {
-      flies = flies c.args.left c.args.right c.args.first c.loop-i.flying.0 c.loop-i.flying.1.0 c.loop-i.i c.requires.left_half c.requires.right_half c.requires.ball c.loop-i.invariant.ball c.loop-i.invariant.steps;
+      flies = flies c.args.left c.args.right c.args.first c.loop-i.flying.0.ball c.loop-i.flying.1.0 c.loop-i.i c.requires.left_half c.requires.right_half c.requires.ball c.loop-i.invariant.ball c.loop-i.invariant.steps;
       few = omega arith;
     }
 
@@ -70,20 +78,15 @@ step_of-flying-requires-clause-few c =
 pub loop-i-preserved : goal.loop-i-preserved
 loop-i-preserved c =
     record {
-      ball = one_more c.args.left c.args.right c.args.first c.loop-i.flying.0 c.step_of-flying.result.ball c.loop-i.i c.loop-i.invariant.ball c.step_of-flying.ensures.ball;
+      ball = one_more c.args.left c.args.right c.args.first c.loop-i.flying.0.ball c.step_of-flying.result.heard.ball c.loop-i.i c.loop-i.invariant.ball c.step_of-flying.ensures.ball;
+      cue = heard_more c.args.left c.args.right c.args.first _ _ _ c.loop-i.i c.loop-i.invariant.ball c.loop-i.invariant.cue c.step_of-flying.ensures.cue;
       steps = c.step_of-flying.ensures.steps ∙ ap (λ n. n + 1) c.loop-i.invariant.steps;
-    }
-
-pub invariant_of-flying-2 : goal.invariant_of-flying-2
-invariant_of-flying-2 c =
-    let n : c.count_steps-count.result ≡ step_count c.args.first = c.count_steps-count.ensures in
-    let m : step_count c.args.first ≤ 8 = few c.args.first c.requires.ball in
-    record {
-      flies = flies c.args.left c.args.right c.args.first c.loop-i.flying.0 c.loop-i.flying.1.0 c.loop-i.i c.requires.left_half c.requires.right_half c.requires.ball c.loop-i.invariant.ball c.loop-i.invariant.steps;
-      few = omega arith;
     }
 
 pub returns : goal.returns
 returns c =
     let done : c.loop-i.i ≡ step_count c.args.first = omega arith in
-    c.loop-i.invariant.ball ∙ ap (after_steps both_at_once c.args.left c.args.right c.args.first) done
+    record {
+      ball = c.loop-i.invariant.ball ∙ ap (after_steps both_at_once c.args.left c.args.right c.args.first) done;
+      cue = c.loop-i.invariant.cue ∙ ap (cue_after_steps c.args.left c.args.right c.args.first) done;
+    }

@@ -16,7 +16,7 @@ loop-j-init c =
     let none : enumerate_count it ≡ 0 = ap enumerate_count gives ∙ c.enumerate-j-items.ensures.count in
     let size = ap chunks_exact_size source ∙ c.chunks_exact.ensures.size in (
       omega arith,
-      simp none (record { left_is = ap chunks_exact_rest source ∙ c.chunks_exact.ensures.rest; state_is = c.new-state.ensures.value; within = omega arith }),
+      simp none (record { left_is = ap chunks_exact_rest source ∙ c.chunks_exact.ensures.rest; state_is = c.start-state.ensures; within = omega arith }),
       simp none refl,
     )
 
@@ -24,7 +24,7 @@ pub loop-j-preserved : goal.loop-j-preserved
 loop-j-preserved c =
     let s = c.in-Some.ensures.steps in
     let before = c.loop-j.invariant in
-    let more = played_more _ _ _ _ _ _ _ before.1 s.0.1.0 (s.0.1.1 ∙ before.0) c.play_frames.ensures in
+    let more = played_more _ _ _ _ _ _ _ before.1 s.0.1.0 (s.0.1.1 ∙ before.0) c.play_frames-state.ensures in
     let j = enumerate_count c.loop-j.j-iterator in
     let bytes = c.save_state.ensures ∙ ap state_bytes more.state_is in (
       s.0.0 ∙ before.0,

@@ -1,26 +1,12 @@
-use Rattle.std.proofs.Common.{◌≡◌, ◌-◌, ◌*◌, ◌/◌, map, length, take, drop, sym, ap, ◌∙◌, arith}
-use Rattle.std.proofs.lemmas.List.{take_all, take-take}
-use Rattle.court_game.specs.Games.{court_game}
-use Rattle.game.specs.Plain.{plays, seat_0, seat_1}
-use Rattle.recording.specs.Matches.{after_frames}
-use Rattle.recording.proofs.Frames.{after_on}
+use Rattle.std.proofs.Common.{map, take, ap, ◌∙◌}
+use Rattle.game.specs.Plain.{seat_0, seat_1}
+use Rattle.court_game.specs.Sounding.{SoundingCourt, sounding_start}
+use Rattle.court_game.proofs.Tones.{court_is_court_game}
 use Rattle.recording.proofs.held.Recording.state_after.Goals as goal
 
 pub returns : goal.returns
 returns c =
     λ right.
-    let fs = c.args.self.now.frames.now in
-    let n = c.args.frame in
-    let k = 600 * (n / 600) in
-    let played = c.in_ok-played.played.now in
-    let rest = take (length played - k) (drop k played) in
-    let long : length played ≡ n = omega (arith, c.in_ok-played.ensures.lookup.0.3) in
-    let z : n - 0 ≡ n = omega arith in
-    let e : played ≡ take n fs = c.in_ok-played.ensures.lookup.0.2 ∙ ap (λ i. take i fs) z in
-    let before : take k fs ≡ take k played = sym (ap (take k) e ∙ take-take k n fs (omega arith)) in (
-      c.in_ok-played.ensures.lookup.0.1,
-      c.play_rest.ensures
-          ∙ ap (λ s. plays court_game s (map seat_0 rest) (map seat_1 rest)) (c.in_ok-from.ensures right ∙ ap after_frames before)
-          ∙ sym (after_on played k (length played - k) (length played) (omega arith))
-          ∙ ap after_frames (take_all (length played) played (omega arith) ∙ e),
-    )
+    let gs = take c.args.frame c.args.self.now.frames.now in
+    let found = c.in_ok-game.ensures right in
+    (found.0, ap (λ (t : SoundingCourt). t.court) found.1 ∙ court_is_court_game sounding_start (map seat_0 gs) (map seat_1 gs))

@@ -22,14 +22,14 @@ loop-j-init c =
     let states = ap chunks_rest second ∙ c.chunks.ensures.rest in (
       ((omega arith, omega arith), tt, inl (let n = ap length frames in simp (many, none) (omega arith))),
       tt,
-      (many, big, simp none (record { played = record { left_is = frames; state_is = c.new-state.ensures.value; within = omega arith }; left_is = states; right = λ i l. absurd (omega arith) })),
+      (many, big, simp none (record { played = record { left_is = frames; state_is = c.start-state.ensures; within = omega arith }; left_is = states; right = λ i l. absurd (omega arith) })),
     )
 
 pub overflow_add-result : goal.overflow_add-result
 overflow_add-result c =
     let s = c.in-Some.ensures.steps in
     let before = c.loop-j.invariant in
-    let t = turned _ _ _ _ _ _ _ _ _ _ _ _ _ before.2.2 s.0.0.1 before.2.0 s.0.1.1 before.2.1 c.play_frames.ensures in
+    let t = turned _ _ _ _ _ _ _ _ _ _ _ _ _ before.2.2 s.0.0.1 before.2.0 s.0.1.1 before.2.1 c.play_frames-state.ensures in
     let differs : Some c.in-Some-first_difference.at ≡ differing c.in-Some.saved.now c.bytes_of.result = search c.in-Some-first_difference.ensures in
     let here = found _ _ _ _ _ _ _ _ _ before.2.2.right t c.bytes_of.ensures differs in
     omega arith
@@ -38,7 +38,7 @@ pub returns-in-Some-first_difference : goal.returns-in-Some-first_difference
 returns-in-Some-first_difference c =
     let s = c.in-Some.ensures.steps in
     let before = c.loop-j.invariant in
-    let t = turned _ _ _ _ _ _ _ _ _ _ _ _ _ before.2.2 s.0.0.1 before.2.0 s.0.1.1 before.2.1 c.play_frames.ensures in
+    let t = turned _ _ _ _ _ _ _ _ _ _ _ _ _ before.2.2 s.0.0.1 before.2.0 s.0.1.1 before.2.1 c.play_frames-state.ensures in
     let differs : Some c.in-Some-first_difference.at ≡ differing c.in-Some.saved.now c.bytes_of.result = search c.in-Some-first_difference.ensures in
     let here = found _ _ _ _ _ _ _ _ _ before.2.2.right t c.bytes_of.ensures differs in
     ap (λ j. Some (64 * j + c.in-Some-first_difference.at)) s.1 ∙ sym here.0
@@ -47,7 +47,7 @@ pub loop-j-preserved : goal.loop-j-preserved
 loop-j-preserved c =
     let s = c.in-Some.ensures.steps in
     let before = c.loop-j.invariant in
-    let t = turned _ _ _ _ _ _ _ _ _ _ _ _ _ before.2.2 s.0.0.1 before.2.0 s.0.1.1 before.2.1 c.play_frames.ensures in
+    let t = turned _ _ _ _ _ _ _ _ _ _ _ _ _ before.2.2 s.0.0.1 before.2.0 s.0.1.1 before.2.1 c.play_frames-state.ensures in
     let more = compared_more _ _ _ _ _ _ _ _ before.2.2.right t c.bytes_of.ensures c.in_default.ensures in
     let many : chunks_exact_size (zip_first (enumerate_source c.next.new.self)) ≡ 600 = s.0.0.0 ∙ before.2.0 in
     let big : chunks_size (zip_second (enumerate_source c.next.new.self)) ≡ 64 = s.0.1.0 ∙ before.2.1 in

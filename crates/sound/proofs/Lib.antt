@@ -1,0 +1,4 @@
+pub mod Lasting
+pub mod Sums
+pub mod Writes
+pub mod InRange

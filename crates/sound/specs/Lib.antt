@@ -1,0 +1,5 @@
+pub mod Tones
+pub mod Sounding
+pub mod Sound
+pub mod Wav
+pub mod Refusals
