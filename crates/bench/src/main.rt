@@ -103,6 +103,15 @@ fn run_packets(rt: &HostRuntime, count: u32) -> anyhow::Result<()> {
     print_sum(rt, packets(count, &mut buffer))
 }
 
+// Work of so many turns. The count is read before the word is looked at.
+fn run_counted(rt: &HostRuntime, what: &str, count: u32) -> anyhow::Result<()> {
+    match what {
+        "pictures" => run_pictures(rt, count),
+        "packets" => run_packets(rt, count),
+        _ => bail!(USAGE),
+    }
+}
+
 fn run_rollback(rt: &HostRuntime, ticks: usize, times: u32, frames: &[u8]) -> anyhow::Result<()> {
     let mut left = Machine::new(rt.alloc(), Seat::Left)?;
     let mut right = Machine::new(rt.alloc(), Seat::Right)?;
@@ -131,12 +140,11 @@ fn run(rt: &HostRuntime) -> anyhow::Result<()> {
         bail!(USAGE);
     };
     match (what.as_str(), rest) {
-        ("pictures", [count]) => run_pictures(rt, count.parse()?),
-        ("packets", [count]) => run_packets(rt, count.parse()?),
         ("rollback", [ticks, times, file]) => {
             let frames = read_file(rt, file)?;
             run_rollback(rt, ticks.parse()?, times.parse()?, &frames)
         }
+        (_, [count]) => run_counted(rt, what, count.parse()?),
         _ => bail!(USAGE),
     }
 }

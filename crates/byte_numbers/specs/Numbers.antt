@@ -17,11 +17,11 @@ number_little (suc n) v h =
     omega arith
 
 -- a whole number of 32 bits in two's complement, and back
-complement_small : (z : ℤ) → neg_ℤ (pos (2 ^ 31)) ≤ℤ z → z <ℤ pos (2 ^ 31) → complement z < 2 ^ 32
+pub complement_small : (z : ℤ) → neg_ℤ (pos (2 ^ 31)) ≤ℤ z → z <ℤ pos (2 ^ 31) → complement z < 2 ^ 32
 complement_small (pos n) l u = omega (arith, ints)
 complement_small (negsuc n) l u = omega (arith, ints)
 
-signed_complement : (z : ℤ) → neg_ℤ (pos (2 ^ 31)) ≤ℤ z → z <ℤ pos (2 ^ 31) → signed_of (complement z) ≡ z
+pub signed_complement : (z : ℤ) → neg_ℤ (pos (2 ^ 31)) ≤ℤ z → z <ℤ pos (2 ^ 31) → signed_of (complement z) ≡ z
 signed_complement (pos n) l u = grind (arith, ints, nat_tests)
 signed_complement (negsuc n) l u = grind (arith, ints, nat_tests)
 

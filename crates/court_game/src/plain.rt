@@ -7,9 +7,11 @@ ghost use Rattle.game.specs.Plain.{plays, seat_0, seat_1};
 
 use crate::sounding::CourtGame;
 use court::Court;
-pub use game::plain::MOST_FRAMES;
 use game::rules::Game;
 use sound::Tone;
+
+// As many frames as a game has at most, named here for callers, who need not know `game`.
+pub const MOST_FRAMES: usize = game::plain::MOST_FRAMES;
 
 // All inputs of both seats from the start, as many frames as both have. Each Court carries what `inside` says, here and below;
 // it is said too, so that a caller reads it without the type.

@@ -2,10 +2,10 @@
 ghost use Rattle.court_game.specs.Sounding.{SoundingCourt};
 ghost use Rattle.court_game.specs.Held.{sounding_court};
 ghost use Rattle.court_game.specs.Saved.{court_saved, court_lawful};
-ghost use Rattle.std.specs.Prelude.{refl};
 
 use crate::snapshot::{load_state, save_state};
 use crate::sounding::CourtGame;
+use game::rules::Game;
 use game::saved::SavedGame;
 
 impl SavedGame for CourtGame {
@@ -14,6 +14,18 @@ impl SavedGame for CourtGame {
     ghost saved = { court_saved };
 
     ghost state = { sounding_court };
+
+    fn fits(input: u8) -> bool {
+        <CourtGame as Game>::fits(input)
+    }
+
+    fn start() -> CourtGame {
+        <CourtGame as Game>::start()
+    }
+
+    fn advance(self, left: u8, right: u8) -> CourtGame {
+        Game::advance(self, left, right)
+    }
 
     fn save(self, part: &mut [u8]) {
         save_state(self, part);
@@ -24,6 +36,4 @@ impl SavedGame for CourtGame {
     }
 
     ghost lawful = { court_lawful };
-
-    ghost same_game = { record { fits = λ a. refl; begins = λ v e. e; goes_on = λ v w a b e. e } };
 }

@@ -51,7 +51,7 @@ impl<'a> Machine<'a> {
         self.tally = self.tally.counted(Act::Tick(input), answer.outcome);
         if let Some(length) = answer.sent {
             let heap = *sent.allocator();
-            sent.push(out[..length].to_vec(heap)?)?;
+            sent.push(Vec::from_slice(heap, &out[..length])?)?;
         }
         Ok(answer.outcome)
     }

@@ -1,6 +1,6 @@
 -- A game whose states can be saved. Assumes nothing: these are definitions.
 use Rattle.std.specs.Prelude.{◌≡◌, ℕ, ◌≤◌, Bool, true, List, length}
-use Rattle.game.specs.Plain.{Game, Rules}
+use Rattle.game.specs.Plain.{Game}
 
 -- what an engine that saves states asks of a game: the game, which bytes are inputs of it, a state's bytes, and which states a
 -- game can come to
@@ -16,10 +16,3 @@ pub record Lawful {S : Type 0} (r : SavedRules S) : Type 0 where
   pub goes_on : (s : S) (a b : ℕ) → r.ok s → r.ok (r.game.frame s a b)
   pub long : (s : S) → length (r.coded s) ≡ 64
   pub narrow : (a : ℕ) → r.fits a ≡ true → a ≤ 15
-
--- two descriptions of one game, each of what values of V stand for: by both the same inputs fit, and what stands for the start, or
--- for a state one frame on, by the one does so by the other
-pub record SameGame {V M S : Type 0} (rules : Rules M) (seen : V → M) (saved : SavedRules S) (state : V → S) : Type 0 where
-  pub fits : (a : ℕ) → rules.fits a ≡ saved.fits a
-  pub begins : (v : V) → seen v ≡ rules.game.start → state v ≡ saved.game.start
-  pub goes_on : (v w : V) (a b : ℕ) → seen w ≡ rules.game.frame (seen v) a b → state w ≡ saved.game.frame (state v) a b

@@ -7,6 +7,9 @@ use crate::rules::Game;
 // As many frames as a game has at most.
 pub const MOST_FRAMES: usize = 1_000_000;
 
+// The clauses of other crates say the number.
+const _: () = prove!(MOST_FRAMES == 1_000_000);
+
 // On from a state, as many frames as both seats have inputs. A state that was come to by inputs from the start
 // goes on as if all inputs had been played from the start.
 pub fn play_on<G: Game>(from: G, left: &[u8], right: &[u8]) -> G

@@ -10,12 +10,12 @@ use Rattle.packet.proofs.Checks.{Started, Ended, started, ended}
 
 -- ---- the first byte that is no input
 
-fit_below : (ys : List ℕ) (k : ℕ) → k < first_bad ys → get_or ys k 0 ≤ 15
+pub fit_below : (ys : List ℕ) (k : ℕ) → k < first_bad ys → get_or ys k 0 ≤ 15
 fit_below ys k h =
     let t : ltb 15 (get_or ys k 0) ≡ false = fails_before_first (ltb 15) ys k 0 h in
     grind (arith, nat_tests)
 
-bad_there : (ys : List ℕ) → first_bad ys < length ys → 15 < get_or ys (first_bad ys) 0
+pub bad_there : (ys : List ℕ) → first_bad ys < length ys → 15 < get_or ys (first_bad ys) 0
 bad_there ys h =
     let t : ltb 15 (get_or ys (first_bad ys) 0) ≡ true = passes_at_first (ltb 15) ys 0 h in
     grind (arith, nat_tests)

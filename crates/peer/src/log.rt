@@ -1,6 +1,6 @@
 // The input log over lent memory: own inputs, and from the middle on the other's.
 // What is required here, callers of this repository are proved to see to.
-ghost use Rattle.std.specs.Prelude.{◌≡◌, ◌+◌, ◌-◌, ◌<◌, ◌≤◌, [], length, drop, if◌then◌else◌, Ok, nat_lt};
+ghost use Rattle.std.specs.Prelude.{◌≡◌, ◌+◌, ◌-◌, ◌<◌, ◌≤◌, [], length, drop, if◌then◌else◌, Ok, nat_lt, slice_index};
 ghost use Rattle.packet.specs.Wire.{Proper, message_of};
 ghost use Rattle.peer.specs.Lent.{Long, Untouched, log_of, with_own, other_at};
 ghost use Rattle.peer.specs.Peers.{heard};
@@ -12,13 +12,20 @@ use packet::Packet;
 // As many inputs as a seat has at most, and where the other's begin.
 pub const HALF: usize = MOST_FRAMES;
 
+// The last of the inputs that came, or 0.
+fn last_of(came: &[u8]) -> u8
+    ensures { result ≡ slice_index came.now (length came.now - 1) }
+{
+    came.last().copied().unwrap_or(0)
+}
+
 // The other's input at a frame, of which so many came: what came, else the last that came, or 0.
 pub fn other_input(inputs: &[u8], came: usize, frame: usize) -> u8
     requires { (Long inputs.now) × ((came ≤ 1000000) × (frame < 1000000)) }
     ensures { result ≡ other_at came inputs.now frame }
 {
     let other = &inputs[HALF..HALF + came];
-    other.get(frame).or(other.last()).copied().unwrap_or(0)
+    other.get(frame).copied().unwrap_or(last_of(other))
 }
 
 // One input more of its own. No other byte changes.

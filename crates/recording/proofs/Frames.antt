@@ -86,7 +86,7 @@ length_marks fs (suc m) =
     omega (arith, length-append (marks fs m) s)
 
 -- frames as far as both seats have inputs
-frames_min : (xs ys : List ℕ) (n : ℕ) → n ≡ min (length xs) (length ys) → frame_bytes (take n xs) (take n ys) ≡ frame_bytes xs ys
+pub frames_min : (xs ys : List ℕ) (n : ℕ) → n ≡ min (length xs) (length ys) → frame_bytes (take n xs) (take n ys) ≡ frame_bytes xs ys
 frames_min xs ys n e = sym (take_frames xs ys n) ∙ take_all n (frame_bytes xs ys) (omega (arith, length_frames xs ys))
 
 -- ---- a peer's frames

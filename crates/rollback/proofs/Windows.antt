@@ -41,7 +41,7 @@ saved_one r seat window inputs came states k e j l u =
     subst P same e
 
 -- one more is saved in its slot alone, so that none of the window's is lost
-saved_more : {S : Type 0} (r : SavedRules S) → Lawful r → (seat : Seat) (window : ℕ) (inputs : List ℕ) (came : ℕ) (states : List ℕ) (lo hi : ℕ) (s : S) → hi + 1 ≤ lo + window → LongStates window states → s ≡ after (seated seat r.game) inputs came (hi + 1) → Saved r seat window inputs came states lo hi → Saved r seat window inputs came (with_slot states ((hi + 1) % (window + 1)) (r.coded s)) lo (hi + 1)
+pub saved_more : {S : Type 0} (r : SavedRules S) → Lawful r → (seat : Seat) (window : ℕ) (inputs : List ℕ) (came : ℕ) (states : List ℕ) (lo hi : ℕ) (s : S) → hi + 1 ≤ lo + window → LongStates window states → s ≡ after (seated seat r.game) inputs came (hi + 1) → Saved r seat window inputs came states lo hi → Saved r seat window inputs came (with_slot states ((hi + 1) % (window + 1)) (r.coded s)) lo (hi + 1)
 unfolding Saved
 saved_more r law seat window inputs came states lo hi s near room e old k l u =
     let at : ℕ = (hi + 1) % (window + 1) in

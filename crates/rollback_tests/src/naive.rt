@@ -1,5 +1,5 @@
 // A peer as a reader of the rules would write it: its inputs in lists, and what it shows played from the start each time.
-use game::rules::Game;
+use game::saved::SavedGame;
 use game::seat::Seat;
 use std::alloc::Global;
 use std::test::Fail;
@@ -105,7 +105,7 @@ impl Naive {
             .map_or(0, |frame| frames - frame)
     }
 
-    pub(crate) fn shows<G: Game>(&self) -> G {
+    pub(crate) fn shows<G: SavedGame>(&self) -> G {
         let mut state = G::start();
         for (frame, own) in self.own.iter().enumerate() {
             let other = taken_for(&self.other, frame);

@@ -1,21 +1,20 @@
 // A second game, as small as one can be: its state is a number that all inputs so far have gone into, in their order.
-ghost use Rattle.std.specs.Prelude.{ℕ, refl};
+ghost use Rattle.std.specs.Prelude.{ℕ};
 ghost use Rattle.std.proofs.Common.{rules as found};
-ghost use Rattle.rollback_tests.specs.Trails.{trail_played, trail_rules};
+ghost use Rattle.rollback_tests.specs.Trails.{trail_rules};
 
 use byte_numbers::LittleEndian;
-use game::rules::Game;
 use game::saved::{STATE_BYTES, SavedGame};
 
 #[derive(Clone, Copy, PartialEq, Eq, Debug)]
 pub struct Trail(pub u32);
 
-impl Game for Trail {
-    ghost model = { ℕ };
+impl SavedGame for Trail {
+    ghost states = { ℕ };
 
-    ghost rules = { trail_played };
+    ghost saved = { trail_rules };
 
-    ghost seen = { λ t. t.0 };
+    ghost state = { λ t. t.0 };
 
     fn fits(input: u8) -> bool {
         input <= 15
@@ -29,14 +28,6 @@ impl Game for Trail {
         let step = u32::from(left) * 17 + u32::from(right);
         Trail(self.0.wrapping_mul(31).wrapping_add(step))
     }
-}
-
-impl SavedGame for Trail {
-    ghost states = { ℕ };
-
-    ghost saved = { trail_rules };
-
-    ghost state = { λ t. t.0 };
 
     fn save(self, part: &mut [u8]) {
         self.0.put(part, 0);
@@ -48,6 +39,4 @@ impl SavedGame for Trail {
     }
 
     ghost lawful = { Prim.search found };
-
-    ghost same_game = { record { fits = λ a. refl; begins = λ v e. e; goes_on = λ v w a b e. e } };
 }

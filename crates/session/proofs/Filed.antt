@@ -17,7 +17,7 @@ use Rattle.session.specs.Files.{event_bytes, Sized, FileOf, StandsAt, NoEvent, F
 
 -- ---- bytes that came, at a place
 
-arrival_stands : (file : List ℕ) (at n : ℕ) → at + 3 + n ≤ length file → get_or file at 0 ≡ 1 → n ≡ number_of (part file (at + 1) 2) → n < 65536 → ((i : ℕ) → get_or file i 0 < 256) → StandsAt file at (arrival (take n (drop (at + 3) file))) (at + 3 + n)
+pub arrival_stands : (file : List ℕ) (at n : ℕ) → at + 3 + n ≤ length file → get_or file at 0 ≡ 1 → n ≡ number_of (part file (at + 1) 2) → n < 65536 → ((i : ℕ) → get_or file i 0 < 256) → StandsAt file at (arrival (take n (drop (at + 3) file))) (at + 3 + n)
 arrival_stands file at n h kind number room bytes =
     let xs : List ℕ = take n (drop (at + 3) file) in
     let long : length xs ≡ n = length-take-le n (drop (at + 3) file) (simp length-drop (omega arith)) in
@@ -126,7 +126,7 @@ pub record ReadUpTo (file : List ℕ) (es : List Event) (at : ℕ) : Type 0 wher
   pub place_is : at ≡ length (flat_map event_bytes es)
   pub within : at ≤ length file
 
-read_more : (file : List ℕ) (es : List Event) (at : ℕ) (e : Event) (next : ℕ) → ReadUpTo file es at → StandsAt file at e next → ReadUpTo file (es ++ e ∷ []) next
+pub read_more : (file : List ℕ) (es : List Event) (at : ℕ) (e : Event) (next : ℕ) → ReadUpTo file es at → StandsAt file at e next → ReadUpTo file (es ++ e ∷ []) next
 read_more file es at e next r s =
     let more : flat_map event_bytes es ++ event_bytes e ≡ flat_map event_bytes (es ++ e ∷ []) = flat_map_more event_bytes [] es e in
     let long : length (flat_map event_bytes (es ++ e ∷ [])) ≡ length (flat_map event_bytes es) + length (event_bytes e) = ap length (sym more) ∙ length-append (flat_map event_bytes es) (event_bytes e) in
@@ -137,11 +137,11 @@ read_more file es at e next r s =
       within = s.within;
     }
 
-read_all : (file : List ℕ) (es : List Event) (at : ℕ) → ReadUpTo file es at → length file ≤ at → FileOf es file
+pub read_all : (file : List ℕ) (es : List Event) (at : ℕ) → ReadUpTo file es at → length file ≤ at → FileOf es file
 read_all file es at r h =
     record { sized = r.sized; bytes_are = r.bytes_are ∙ ap (λ zs. flat_map event_bytes es ++ zs) (drop_all at file h) ∙ append-nil (flat_map event_bytes es) }
 
-read_broken : (file : List ℕ) (es : List Event) (at : ℕ) → ReadUpTo file es at → at < length file → NoEvent (drop at file) → FaultyAt file at
+pub read_broken : (file : List ℕ) (es : List Event) (at : ℕ) → ReadUpTo file es at → at < length file → NoEvent (drop at file) → FaultyAt file at
 read_broken file es at r h none =
     record {
       before = es;
@@ -154,7 +154,7 @@ read_broken file es at r h none =
     }
 
 -- an event goes on
-next_beyond : (file : List ℕ) (at : ℕ) (e : Event) (next : ℕ) → StandsAt file at e next → at + 2 ≤ next
+pub next_beyond : (file : List ℕ) (at : ℕ) (e : Event) (next : ℕ) → StandsAt file at e next → at + 2 ≤ next
 next_beyond file at (tick a) next s = omega (arith, s.next_is)
 next_beyond file at (arrival xs) next s = omega (arith, s.next_is)
 

@@ -28,7 +28,7 @@ told_by true true a = refl
 told_by true false a = refl
 told_by false goes a = refl
 
-writes_fits : (window inputs states : ℕ) (log : Log) (a : ℕ) → 2000000 ≤ inputs → (window + 1) * 64 ≤ states → writes (tick a) (said_tick (λ b. leb b 15) window inputs states log a) ≡ leb a 15
+pub writes_fits : (window inputs states : ℕ) (log : Log) (a : ℕ) → 2000000 ≤ inputs → (window + 1) * 64 ≤ states → writes (tick a) (said_tick (λ b. leb b 15) window inputs states log a) ≡ leb a 15
 unfolding said_tick
 writes_fits window inputs states log a h k =
     let i : ltb inputs 2000000 ≡ false = le-ltb _ _ h in

@@ -1,15 +1,19 @@
 // Events with what is heard of them: the packets that a peer sends and the sounds that it hands
 // out, each kept behind those before.
-ghost use Rattle.std.specs.Prelude.{◌≡◌, ℕ, true, List, [], ◌∷◌, ◌++◌, length, is_err, IfOk, OnOk};
-ghost use Rattle.court_game.specs.Games.{is_input};
+ghost use Rattle.std.specs.Prelude.{◌≡◌, ℕ, ◌≤◌, true, List, [], ◌∷◌, ◌++◌, length, cond, is_err, IfOk, OnOk, ◌≢◌};
+ghost use Rattle.court_game.specs.Games.{court_game, is_input};
 ghost use Rattle.court_game.specs.Saved.{court_saved};
 ghost use Rattle.court_game.specs.Sounding.{sounding_game};
 ghost use Rattle.game.specs.declared.seat.Seat.{Seat as At};
+ghost use Rattle.network.specs.Promise.{Stays};
+ghost use Rattle.packet.specs.Wire.{message_bytes};
 ghost use Rattle.peer.specs.Lent.{LongStates, log_of};
-ghost use Rattle.peer.specs.Peers.{Event, Log, shows};
+ghost use Rattle.peer.specs.Peers.{Event, Log, AsPredicted, arrival, sends, shows};
 ghost use Rattle.rollback.specs.Rows.{StandsFor};
 ghost use Rattle.rollback.specs.Saved.{Happened};
-ghost use Rattle.session.specs.Events.{event_of, hands, said};
+ghost use Rattle.rollback.specs.declared.outcome.Outcome.TheVariants.{Taken};
+ghost use Rattle.session.specs.Events.{event_of, hands, said, writes};
+ghost use Rattle.session.specs.Files.{event_bytes};
 ghost use Rattle.session.specs.Rows.{After, log_after, memory, packets_sent, sounds_handed};
 ghost use Rattle.sound.specs.Sound.{sound_bytes};
 
@@ -45,7 +49,8 @@ fn keep_shown(p: &Peer, states: &[u8], sounds: &mut Vec<u8>) -> Result<(), Alloc
 /// One event. The packet that is written, if one is, and the sound of the frame that a tick plays
 /// are put behind those before them. After a row of events these are all packets and all sounds
 /// that the definitions give for it, in order: each frame is handed out once, as the peer shows it
-/// when its tick plays it. Without memory for them the event has happened all the same.
+/// when its tick plays it. Without memory for them the event has happened all the same, and no sound
+/// is added.
 pub fn happen_sounding(
     p: &mut Peer,
     inputs: &mut [u8],
@@ -62,6 +67,18 @@ pub fn happen_sounding(
     ensures row { (seat : At) (window : ℕ) (es : List Event) →
         After seat window es (memory p.old inputs.old states.old) →
         After seat window (es ++ event_of event.entry ∷ []) (memory p.new inputs.new states.new) }
+    ensures idle { IfOk result (λ o. ((n : ℕ) → o ≢ Taken n) →
+        (p.new ≡ p.old) × (inputs.new ≡ inputs.old) × (states.new ≡ states.old)) }
+    ensures few { IfOk result (λ o. (n : ℕ) → o ≡ Taken n → n ≤ p.old.window) }
+    ensures stays { (seat : At) →
+        Stays court_game seat (log_of p.old inputs.old) (log_of p.new inputs.new) }
+    ensures guessed { IfOk result (λ o. (xs : List ℕ) → event_of event.entry ≡ arrival xs →
+        AsPredicted (log_of p.old inputs.old) (log_of p.new inputs.new) →
+        ((n : ℕ) → o ≡ Taken n → n ≡ 0) × (states.new ≡ states.old)) }
+    ensures kept { IfOk result (λ o. packets.new.items ≡ packets.old.items
+        ++ cond (writes (event_of event.entry) o)
+        (event_bytes (arrival (message_bytes (sends (log_of p.new inputs.new))))) []) }
+    ensures unheard { is_err result ≡ true → sounds.new.items ≡ sounds.old.items }
     ensures packets { OnOk result ((seat : At) (window : ℕ) (es : List Event) →
         After seat window es (memory p.old inputs.old states.old) →
         packets.new.items

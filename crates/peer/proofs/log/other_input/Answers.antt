@@ -1,16 +1,10 @@
-use Rattle.std.proofs.Common.{◌≡◌, ℕ, ◌+◌, ◌-◌, ◌<◌, ◌≤◌, List, length, get_or, take, drop, None, Some, Option, Bor, refl, ap, ◌∙◌, inl, inr, arith, length-drop, length-take, get_or-take, get_or-drop, le-ltb, lt-ltb}
+use Rattle.std.proofs.Common.{◌≡◌, ℕ, ◌+◌, ◌-◌, ◌<◌, ◌≤◌, List, length, get_or, take, drop, refl, ap, ◌∙◌, inl, inr, arith, length-drop, length-take, get_or-take, get_or-drop, le-ltb, lt-ltb}
 use Rattle.std.proofs.lemmas.List.{get_or_past}
-use Rattle.std.specs.Option.{unwrap_or, option_or, option_copied}
+use Rattle.std.specs.Option.{unwrap_or}
 use Rattle.std.proofs.lemmas.Bool.{cases_lt}
 use Rattle.std.proofs.lemmas.Grind.{get_or_default_zero}
-use Rattle.std.proofs.lemmas.Option.{unwrap_or-slice_get}
 use Rattle.peer.specs.Lent.{other_at}
 use Rattle.peer.proofs.log.other_input.Goals as goal
-
--- the one, else the other
-picked : (o o' : Option (Bor ℕ)) → unwrap_or (option_copied (option_or o o')) 0 ≡ unwrap_or (option_copied o) (unwrap_or (option_copied o') 0)
-picked (Some x) o' = refl
-picked None o' = refl
 
 -- in the part that came
 other_is : (came frame : ℕ) (xs ys : List ℕ) → 1000000 + came ≤ length xs → ys ≡ take ((1000000 + came) - 1000000) (drop 1000000 xs) → get_or ys frame (get_or ys (length ys - 1) 0) ≡ other_at came xs frame
@@ -37,10 +31,8 @@ pub returns : goal.returns
 returns c =
     let xs = c.args.inputs.now in
     let ys = take ((1000000 + c.args.came) - 1000000) (drop 1000000 xs) in
-    let last = ap (λ o. unwrap_or o 0) c.last.ensures.value ∙ unwrap_or-slice_get ys (length ys - 1) 0 in
     c.unwrap_or.ensures
-    ∙ ap (λ o. unwrap_or o 0) (c.copied.ensures ∙ ap option_copied c.or.ensures)
-    ∙ picked c.get.result c.last.result
+    ∙ ap (λ o. unwrap_or o c.last_of.result) c.copied.ensures
     ∙ c.get.ensures.lookup.4 (omega arith) _
-    ∙ ap (get_or ys c.args.frame) last
+    ∙ ap (get_or ys c.args.frame) c.last_of.ensures
     ∙ other_is c.args.came c.args.frame xs ys (omega (arith, c.requires)) refl

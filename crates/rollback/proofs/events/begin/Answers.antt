@@ -26,7 +26,7 @@ returns-clause-begun g c =
     let first : slot saved (0 % (window + 1)) ≡ r.coded (after (seated seat r.game) xs 0 0) =
     ap (slot saved) (zero-mod (window + 1))
     ∙ slot_same states saved (r.coded s) 0 written few (law.long s)
-    ∙ ap r.coded (g.met.G.SavedGame.same_game.begins _ c.start.ensures ∙ sym (after_none seat r.game xs 0)) in
+    ∙ ap r.coded (c.start.ensures ∙ sym (after_none seat r.game xs 0)) in
     let one = saved_one r seat window xs 0 saved 0 first in
     let none : (k : ℕ) → k ≤ p.own → after (seated seat r.game) xs 0 k ≡ after (seated seat r.game) xs p.other k = λ k _. ap (λ b. after (seated seat r.game) xs b k) (sym other) in
     record {

@@ -23,7 +23,7 @@ returns-in_ok-push-clause-at c = λ window n seat stands at.
     let told = told_some b (sends log) c.in-Some.length (sym c.in-Some.is ∙ did.sent) in
     let fit : leb a 15 ≡ true = sym (wrote seat window _ m o (tick a) stands did.answer) ∙ told.0 in
     let items = pushed (_ ∷ []) refl c.in_ok-push.was c.push.ensures.items in
-    let bytes = c.in_ok-to_vec.ensures.items_if_clones_equal (λ x y h. h) in
+    let bytes = c.in_ok-from_slice.ensures.items in
     let P : List (Vec ℕ Global) → Type 0 = λ ps. PacketsAt (acted window n seat (Tick a)) (facing seat) ps in
     (peer, subst P (sym items) (packet_more window n seat a _ _ _ fit at peer (bytes ∙ sent_is c.in-Some.length c.happen-answer.new.out _ (sends log) b told.0 told.1 did.packet)))
 
@@ -47,7 +47,7 @@ returns-in_ok-push-clause-packet c =
     let told = told_some b (sends log) c.in-Some.length (sym c.in-Some.is ∙ did.sent) in
     let before = vec_items c.args.sent.now in
     let items = pushed (_ ∷ []) refl c.in_ok-push.was c.push.ensures.items in
-    let bytes = c.in_ok-to_vec.ensures.items_if_clones_equal (λ x y h. h) in
+    let bytes = c.in_ok-from_slice.ensures.items in
     ap (map vec_items) items
     ∙ map_push vec_items before _
     ∙ ap (λ z. map vec_items before ++ z ∷ []) (bytes ∙ sent_is c.in-Some.length c.happen-answer.new.out _ (sends log) b told.0 told.1 did.packet)

@@ -13,7 +13,7 @@ returns-clause-state g c =
     let s = g.G.SavedGame.state old.state in
     let own = get_or c.args.inputs.now old.frame 0 in
     let sides : c.in_order-left.result ≡ in_order seat own c.other_input-other.result = cc in
-    g.met.G.SavedGame.same_game.goes_on old.state c.advance-self.result _ _ c.advance-self.ensures
+    c.advance-self.ensures
     ∙ ap (λ (i : ℕ × ℕ). rules.game.frame s i.0 i.1) sides
     ∙ seated_frame seat rules.game s own c.other_input-other.result
     ∙ ap ((seated seat rules.game).frame s own) c.other_input-other.ensures
