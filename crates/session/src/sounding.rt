@@ -1,6 +1,7 @@
 // Events with what is heard of them: the packets that a peer sends and the sounds that it hands
 // out, each kept behind those before.
-ghost use Rattle.std.specs.Prelude.{◌≡◌, ℕ, ◌≤◌, true, List, [], ◌∷◌, ◌++◌, length, cond, is_err, IfOk, OnOk, ◌≢◌};
+ghost use Rattle.std.specs.Prelude.{◌≡◌, ◌≢◌, ℕ, ◌≤◌, true, cond, is_err, IfOk, OnOk};
+ghost use Rattle.std.specs.Prelude.{List, [], ◌∷◌, ◌++◌, length, take};
 ghost use Rattle.court_game.specs.Games.{court_game, is_input};
 ghost use Rattle.court_game.specs.Saved.{court_saved};
 ghost use Rattle.court_game.specs.Sounding.{sounding_game};
@@ -49,8 +50,8 @@ fn keep_shown(p: &Peer, states: &[u8], sounds: &mut Vec<u8>) -> Result<(), Alloc
 /// One event. The packet that is written, if one is, and the sound of the frame that a tick plays
 /// are put behind those before them. After a row of events these are all packets and all sounds
 /// that the definitions give for it, in order: each frame is handed out once, as the peer shows it
-/// when its tick plays it. Without memory for them the event has happened all the same, and no sound
-/// is added.
+/// when its tick plays it. Without memory for them the event has happened all the same, no sound is
+/// added, and every packet that was there before stays.
 pub fn happen_sounding(
     p: &mut Peer,
     inputs: &mut [u8],
@@ -78,6 +79,8 @@ pub fn happen_sounding(
     ensures kept { IfOk result (λ o. packets.new.items ≡ packets.old.items
         ++ cond (writes (event_of event.entry) o)
         (event_bytes (arrival (message_bytes (sends (log_of p.new inputs.new))))) []) }
+    ensures there { let before = packets.old.items in
+        take (length before) packets.new.items ≡ before }
     ensures unheard { is_err result ≡ true → sounds.new.items ≡ sounds.old.items }
     ensures packets { OnOk result ((seat : At) (window : ℕ) (es : List Event) →
         After seat window es (memory p.old inputs.old states.old) →
